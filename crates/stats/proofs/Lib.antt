@@ -1,0 +1,15 @@
+pub mod Bounds
+pub mod Fill
+pub mod Blocking
+pub mod Unique
+pub mod Tops
+pub mod Gathering
+pub mod Ends
+pub mod RowsLink
+pub mod Tallying
+pub mod Infos
+pub mod Together
+pub mod Inplace
+pub mod Asked
+pub mod Standing
+pub mod Hiding
