@@ -2,6 +2,7 @@
 """Writes the list of the original's statistics that the program `statslist` replays.
 
     make_stats_list.py ORACLE > crates/statslist/stdin
+    make_stats_list.py ORACLE 50 | target/bin/statslist     # fifty such lists, each from another seed
 
 ORACLE is a driver over the original's own files (docs/DIFFERENCES.md, "What was compared by running"). It answers one line for
 each command: `stats KIND WISH CELLS`, `span KIND CELLS` (max_minus_min) and `facts KIND CELLS` (min_is_zero, min_is_negative,
@@ -58,8 +59,8 @@ def columns(kind, rng):
     yield [rng.randint(max(low, 0), min(high, 300)) for _ in range(200)]
 
 
-def main():
-    rng = random.Random(20)
+def make(oracle, seed):
+    rng = random.Random(seed)
     asked, shown = [], []
     for kind in KINDS:
         low, high = bounds(kind)
@@ -71,7 +72,7 @@ def main():
             for wish in (0, 1):
                 asked += [f"stats {kind} {wish}{tail}", f"span {kind}{tail}", f"facts {kind}{tail}"]
                 shown.append((wish, line, any(c is not None for c in cells)))
-    answers = subprocess.run([sys.argv[1]], input="\n".join(asked) + "\n", capture_output=True, text=True, check=True).stdout.splitlines()
+    answers = subprocess.run([oracle], input="\n".join(asked) + "\n", capture_output=True, text=True, check=True).stdout.splitlines()
     assert len(answers) == len(asked)
     for i, (wish, line, value) in enumerate(shown):
         stats, span, facts = answers[3 * i : 3 * i + 3]
@@ -79,4 +80,5 @@ def main():
         print(f"{wish}|{line}|{stats}|{span if value else '-'}|{facts}")
 
 
-main()
+for round in range(int(sys.argv[2]) if len(sys.argv) > 2 else 1):
+    make(sys.argv[1], 20 + round)

@@ -36,7 +36,13 @@ fn counted(heap: Global, kind: Kind, values: &[u64], counts: &[u64]) -> Result<S
 }
 
 // How many values are distinct, the commonest and its count, and the table; dashes where they were not counted.
-fn distinct(heap: Global, kind: Kind, s: &IntegerStats, values: &[u64], counts: &[u64]) -> Result<String, AllocError> {
+fn distinct(
+    heap: Global,
+    kind: Kind,
+    s: &IntegerStats,
+    values: &[u64],
+    counts: &[u64],
+) -> Result<String, AllocError> {
     let (Some(n), Some(top)) = (s.distinct_count(), s.most_frequent_value_and_count()) else {
         return String::from_str(heap, "- - - -");
     };
@@ -51,7 +57,11 @@ fn derived(heap: Global, s: &IntegerStats) -> Result<String, AllocError> {
     let span = s.max_minus_min();
     let zero = u8::from(s.min_is_zero());
     let negative = u8::from(s.min_is_negative());
-    let mut text = if s.value_count() == 0 && span == 0 { String::from_str(heap, "-")? } else { format!(heap, "{span}")? };
+    let mut text = if s.value_count() == 0 && span == 0 {
+        String::from_str(heap, "-")?
+    } else {
+        format!(heap, "{span}")?
+    };
     text.push_str(format!(heap, "|{zero} {negative} ")?.as_str())?;
     match s.max_ilog2() {
         Some(n) => text.push_str(format!(heap, "{n}")?.as_str())?,
@@ -61,7 +71,13 @@ fn derived(heap: Global, s: &IntegerStats) -> Result<String, AllocError> {
 }
 
 // The whole answer, as the list has it.
-fn answer(heap: Global, kind: Kind, s: &IntegerStats, values: &[u64], counts: &[u64]) -> Result<String, AllocError> {
+fn answer(
+    heap: Global,
+    kind: Kind,
+    s: &IntegerStats,
+    values: &[u64],
+    counts: &[u64],
+) -> Result<String, AllocError> {
     let nulls = s.null_count();
     let count = s.value_count();
     let average = s.average_run_length();
@@ -77,7 +93,11 @@ fn hidden(heap: Global, col: &LineColumn, cell: u64) -> Result<Vec<u64>, AllocEr
     let mut cells = Vec::with_capacity(heap, col.cells.len())?;
     let view = col.view();
     for r in 0..view.rows() {
-        let here = if view.is_present(r) { view.cells[r] } else { cell };
+        let here = if view.is_present(r) {
+            view.cells[r]
+        } else {
+            cell
+        };
         cells.push(here)?;
     }
     Ok(cells)
@@ -89,10 +109,20 @@ fn replay(heap: Global, view: View<'_>, wish: bool) -> Result<String, AnyError> 
         return Err("a column of the list is refused".into());
     };
     let mut table: Vec<u64> = vec![in heap; 0xA5A5; 2 * view.rows() + 64]?;
-    let opts = GenerateStatsOptions { count_distinct_values: wish };
+    let opts = GenerateStatsOptions {
+        count_distinct_values: wish,
+    };
     let s = IntegerStats::generate_opts(view, opts, table.as_mut_slice());
     let lent = table.as_slice();
-    Ok(answer(heap, view.kind, &s, s.distinct_values(lent), s.distinct_counts(lent))?)
+    Ok(
+        answer(
+            heap,
+            view.kind,
+            &s,
+            s.distinct_values(lent),
+            s.distinct_counts(lent),
+        )?,
+    )
 }
 
 // Whether both answers, with zeros and with other cells under the blanks, are the one in the list.
@@ -107,7 +137,15 @@ fn agrees(heap: Global, line: &str) -> Result<bool, AnyError> {
     let view = col.view();
     let zeros = replay(heap, view, wish == "1")?;
     let cells = hidden(heap, &col, 0xDEAD_BEEF_0BAD_F00D)?;
-    let others = replay(heap, View { kind: view.kind, cells: cells.as_slice(), words: view.words }, wish == "1")?;
+    let others = replay(
+        heap,
+        View {
+            kind: view.kind,
+            cells: cells.as_slice(),
+            words: view.words,
+        },
+        wish == "1",
+    )?;
     Ok(zeros.as_str() == theirs && others.as_str() == theirs)
 }
 
@@ -123,7 +161,10 @@ fn run(rt: &LibcRuntime) -> Result<(), AnyError> {
             println!(rt, "differs,{answers}")?;
         }
     }
-    println!(rt, "{answers} answers of the original, {differences} differences")?;
+    println!(
+        rt,
+        "{answers} answers of the original, {differences} differences"
+    )?;
     Ok(())
 }
 

@@ -8,4 +8,5 @@ pub returns : need.returns
 returns c = record {
   value = sym (bits-leading 64 (c .args .n));
   holds = length-holds (c .args .n) (c .fits .n .fits);
-  least = λ j g. length-least (c .args .n) j (c .fits .n .fits) g }
+  least = λ j g. length-least (c .args .n) j (c .fits .n .fits) g;
+}
