@@ -1,0 +1,3 @@
+pub mod Payloads
+pub mod Nodes
+pub mod Reading

@@ -1,0 +1,4 @@
+pub mod HistoryLaws
+pub mod Ratios
+pub mod Searches
+pub mod StoredLaws

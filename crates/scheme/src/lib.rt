@@ -1,0 +1,6 @@
+// The interface by which schemes compete for a column.
+pub mod ctx;
+pub mod estimate;
+pub mod exclusion;
+pub mod history;
+pub mod scheme;
