@@ -1,7 +1,7 @@
 -- Distances from the least value, row by row, and values from them again.
 use Prim.Native.Nat.{ℕ, zero, suc, _+_, _-_, _%_, _^_, _≤_, _<_}
 use native.Mathlib.Omega.{arith}
-use mathlib.Core.Path.{_≡_, refl, sym, ap, _∙_, subst}
+use mathlib.Core.Path.{_≡_, sym, ap, _∙_, subst}
 use mathlib.Core.Bool.{Bool, true, false, cond}
 use mathlib.Core.List.{List, [], _∷_, _++_, map, append-nil}
 use denote.Ref.{now}
@@ -12,7 +12,7 @@ use Rattle.std.proofs.shelf.Edits.{map-over-more}
 use Rattle.std.proofs.shelf.Lists.{append-assoc, drop-all, drop-more, getD-default, take-all, take-more-set}
 use Rattle.packing.specs.Packing.{joined, Below}
 use Rattle.column.specs.declared.views.View.{View}
-use Rattle.column.specs.Kinds.{numberOf, signed, key, keyBy}
+use Rattle.column.specs.Kinds.{numberOf, signed, keyBy}
 use Rattle.column.specs.Columns.{Row, Column, rowOf, valuesOf, values, wordBits, seen, Clean, CleanView}
 use Rattle.column.specs.Views.{isValue}
 use Rattle.column.proofs.KindLaws.{bounds}

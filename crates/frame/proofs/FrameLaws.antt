@@ -1,15 +1,14 @@
 -- Frame keeps the laws of schemes.
-use Prim.Native.Nat.{ℕ, zero, suc, _+_, _-_, _*_, _/_, _%_, _^_, _≤_, _<_, min, zero-le}
+use Prim.Native.Nat.{ℕ, suc, _+_, _-_, _%_, _^_, _≤_, _<_, min, zero-le}
 use native.Mathlib.Omega.{arith}
 use lib.Pow.{pow-pos}
 use mathlib.Core.Path.{_≡_, refl, sym, ap, _∙_, subst}
 use mathlib.Core.Bool.{Bool, true, false, cond}
 use mathlib.Core.List.{List, [], _∷_, _++_, map}
 use lib.Dec.{eqb}
-use lib.ListN.{length, getD, take, drop, length-append}
+use lib.ListN.{length, getD, length-append}
 use Rattle.std.specs.shelf.Lists.{All}
 use Rattle.std.specs.declared.option.Option.the-variants.{Some, None}
-use Rattle.std.specs.declared.result.Result.the-variants.{Ok, Err}
 use Rattle.std.proofs.shelf.Lists.{length-map}
 use Rattle.std.proofs.shelf.Tests.{ne-eqb, eqb-true}
 use Rattle.packing.specs.Packing.{packedLen, packed, unpacked, bitLength, Below}
@@ -19,14 +18,14 @@ use Rattle.packing.proofs.Packed.{length-packed, below-packed, packed-small, un
 use Rattle.column.specs.Kinds.{width, signed, key, keyBy}
 use Rattle.column.specs.Columns.{Row, Column, Clean, bits, rowsOf, valuesOf, values, hasBlank}
 use Rattle.column.proofs.KindLaws.{bounds}
-use Rattle.stats.specs.Stats.{Stats, stats, leastOf, greatestOf, maxMinusMin}
-use Rattle.stats.specs.Laws.{occurs, Ends}
+use Rattle.stats.specs.Stats.{stats, leastOf, maxMinusMin}
+use Rattle.stats.specs.Laws.{occurs}
 use Rattle.stats.proofs.Standing.{right-of}
-use Rattle.node.specs.Payloads.{mask, maskLen, flagOf, unmask, atWidth, fromWidth}
+use Rattle.node.specs.Payloads.{mask, flagOf, unmask, atWidth}
 use Rattle.node.proofs.MaskLaws.{mask-back, length-mask, below-mask, mask-small, flag-small}
 use Rattle.node.proofs.WidthLaws.{InKind, width-most, zero-in, width-back, after-width, length-atWidth, below-atWidth, clean-kind, clean-values}
 use Rattle.scheme.specs.Meaning.{Parts, PartsKeep, Keeps}
-use Rattle.frame.specs.Frame.{frameBits, base, overBase, columnBits, framePayload, frameLen, addedTo, frameRows, frameJoin, frame}
+use Rattle.frame.specs.Frame.{base, overBase, columnBits, framePayload, frameLen, addedTo, frameRows, frameJoin, frame}
 
 -- ---- least, greatest and bits
 

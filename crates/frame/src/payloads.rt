@@ -1,5 +1,5 @@
 // The payload: the least value at the width, the distances packed, the mask.
-ghost use Prim.Native.Nat.{ℕ, _+_, _-_, _%_, _^_, _≤_, min};
+ghost use Prim.Native.Nat.{_+_, _-_, _%_, _^_, _≤_, min};
 ghost use Rattle.column.specs.Columns.{seen, values, Sound, CleanView, wordsFor};
 ghost use Rattle.column.specs.Kinds.{numberOf, width};
 ghost use Rattle.frame.specs.Frame.{base, overBase, bodyBy, payloadBy, frameLen, addedTo, frameRows};

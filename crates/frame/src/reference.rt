@@ -1,5 +1,5 @@
 // What a column's values are measured from.
-ghost use Prim.Native.Nat.{ℕ, _+_, _*_, _≤_};
+ghost use Prim.Native.Nat.{_+_, _*_, _≤_};
 ghost use Rattle.column.specs.Columns.{seen, values, Sound};
 ghost use Rattle.column.specs.Kinds.{numberOf};
 ghost use Rattle.frame.specs.Frame.{frameBits, base, columnBits};

@@ -1,5 +1,4 @@
 // What Frame says when it is asked.
-ghost use Prim.Native.Nat.{ℕ};
 ghost use Rattle.frame.specs.Frame.{frameVerdict};
 ghost use Rattle.scheme.specs.Scores.{marked};
 ghost use mathlib.Core.Path.{_≡_};

@@ -8,7 +8,7 @@ use native.Mathlib.Omega.{arith}
 use denote.Ref.{now}
 use lib.Dec.{ltb, lit<}
 use lib.ListN.{length, take, drop}
-use Rattle.std.proofs.shelf.Lists.{take-append-le, take-all, length-take-le}
+use Rattle.std.proofs.shelf.Lists.{take-append-le, take-all, length-take, length-take-le}
 use Rattle.std.proofs.shelf.Tests.{lt-ltb, ltb-true}
 use Rattle.std.specs.declared.result.Result.{Result}
 use Rattle.std.specs.declared.result.Result.the-variants.{Ok, Err}
@@ -137,6 +137,13 @@ sound-part v n cs ws p q few lc lw =
     let a : length (now (v .cells)) ≡ n = ap length p ∙ length-take-le (n - 0) cs (omega arith) ∙ (let t : n - 0 ≡ n = omega arith in t) in
     let b : length (now (v .words)) ≡ (n + 63) / 64 = ap length q ∙ length-take-le ((n + 63) / 64 - 0) ws (omega arith) ∙ (let t : (n + 63) / 64 - 0 ≡ (n + 63) / 64 = omega arith in t) in
     record { few = omega arith; words = b ∙ ap wordsFor (sym a) }
+
+-- of no more rows than n
+pub short-part : (xs : List ℕ) (n m : ℕ) (cs : List ℕ) → xs ≡ take (n - 0) cs → n ≤ m → length xs ≤ m
+short-part xs n m cs p h =
+    let a = ap length p in
+    let b = length-take (n - 0) cs in
+    omega arith
 
 -- ---- the payload
 

@@ -38,6 +38,8 @@ fn join_parts<'a, S: Scheme>(
     requires few { ⌜ rows ≤ 131072 ⌝ }
     requires child0 { ⌜ Sound child0 ⌝ }
     requires child1 { ⌜ Sound child1 ⌝ }
+    requires short0 { ⌜ length (now (child0 .cells)) ≤ rows ⌝ }
+    requires short1 { ⌜ length (now (child1 .cells)) ≤ rows ⌝ }
     requires cells { ⌜ length (now cells) ≡ rows ⌝ }
     requires words { ⌜ length (now words) ≡ wordsFor rows ⌝ }
     requires spared { ⌜ spare rows ≤ length (now mem) ⌝ }

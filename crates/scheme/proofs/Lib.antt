@@ -1,3 +1,4 @@
+pub mod ChildLaws
 pub mod HistoryLaws
 pub mod Ratios
 pub mod Searches

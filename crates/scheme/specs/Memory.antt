@@ -10,7 +10,7 @@ use Rattle.std.specs.declared.result.Result.the-variants.{Ok, Err}
 use Rattle.column.specs.Kinds.{numberOf}
 use Rattle.column.specs.Columns.{Column, Offer, offerOf, cleaned, seen, Sound, wordsFor}
 use Rattle.stats.specs.Stats.{Stats, stats}
-use Rattle.stats.specs.Seen.{statsSeen}
+use Rattle.stats.specs.Seen.{statsSeen, Holds}
 use Rattle.scheme.specs.declared.ctx.CascadeHistory.{CascadeHistory}
 use Rattle.scheme.specs.declared.ctx.CompressorContext.{CompressorContext}
 use Rattle.scheme.specs.declared.scheme.ArrayAndStats.{ArrayAndStats}
@@ -34,9 +34,9 @@ historyOf c = entriesOf (c .«cascade_history»)
 abbrev pub statsIn : ArrayAndStats → Stats
 statsIn d = statsSeen (now (d .stats)) (now (d .table))
 
--- they are the column's own, made with or without distinct counts
+-- they are the column's own, made with or without distinct counts, and the table holds the pairs
 abbrev pub Measured : ArrayAndStats → Type 0
-Measured d = (want : Bool) × (statsIn d ≡ stats want (seen (d .array)))
+Measured d = (want : Bool) × (statsIn d ≡ stats want (seen (d .array))) × Holds (now (d .stats)) (now (d .table))
 
 -- lent places that the children of n rows fit into
 pub record Room (n : ℕ) (c0 w0 c1 w1 m : List ℕ) : Type 0 where
@@ -98,8 +98,11 @@ partsSeen n s = record {
 abbrev pub held : ℕ → List ℕ → List ℕ → Column
 held k cs ws = cleaned (record { kind = k; cells = cs; words = ws })
 
+-- children of any rows, no more than the column has
 pub record Joinable (s : Stored) (m cs ws : List ℕ) : Type 0 where
   pub few : s .rows ≤ 131072
+  pub short0 : length (now (s .child0 .cells)) ≤ s .rows
+  pub short1 : length (now (s .child1 .cells)) ≤ s .rows
   pub child0 : Sound (s .child0)
   pub child1 : Sound (s .child1)
   pub cells : length cs ≡ s .rows

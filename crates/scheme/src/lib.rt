@@ -1,4 +1,5 @@
 // The interface by which schemes compete for a column.
+pub mod children;
 pub mod ctx;
 pub mod estimate;
 pub mod exclusion;

@@ -22,7 +22,7 @@ abbrev Word : ℕ → Type 0
 Word w = w < 2 ^ 64
 
 -- v is one of the list
-abbrev Mem : ℕ → List ℕ → Type 0
+abbrev pub Mem : ℕ → List ℕ → Type 0
 Mem v [] = ⊥
 Mem v (w ∷ ws) = (v ≡ w) ⊎ Mem v ws
 
@@ -57,7 +57,7 @@ counted-old u k v (p ∷ ps) m = go (eqb v (p .0)) (ltb (key k v) (key k (p .0))
     go false false e (inl g) ih = inl g
     go false false e (inr g) ih = inr (ih g)
 
-tally-mem : (k : ℕ) (vs : List ℕ) → All (λ v. Mem v (firsts (tally k vs))) vs
+pub tally-mem : (k : ℕ) (vs : List ℕ) → All (λ v. Mem v (firsts (tally k vs))) vs
 tally-mem k [] = tt
 tally-mem k (v ∷ vs) = (
   counted-new k v (tally k vs),
@@ -73,7 +73,7 @@ counted-all P k v (p ∷ ps) h a = go (eqb v (p .0)) (ltb (key k v) (key k (p .0
     go false true m = (h, a)
     go false false m = (a .0, m)
 
-tally-all : (P : ℕ → Type 0) (k : ℕ) (vs : List ℕ) → All P vs → All P (firsts (tally k vs))
+pub tally-all : (P : ℕ → Type 0) (k : ℕ) (vs : List ℕ) → All P vs → All P (firsts (tally k vs))
 tally-all P k [] a = tt
 tally-all P k (v ∷ vs) a = counted-all P k v (tally k vs) (a .0) (tally-all P k vs (a .1))
 
@@ -108,7 +108,7 @@ counted-ascends k v (p ∷ ps) w ws a = go (eqb v (p .0)) (ltb (key k v) (key k 
     go false true e f r = let l = ltb-true (key k v) (key k (p .0)) f in ((l, after-trans k v (p .0) (firsts ps) l (a .0)), a)
     go false false e f r = (counted-after k (p .0) v ps (later k v (p .0) w (ws .0) e f) (a .0), r)
 
-tally-ascends : (k : ℕ) (vs : List ℕ) → All Word vs → Ascends k (firsts (tally k vs))
+pub tally-ascends : (k : ℕ) (vs : List ℕ) → All Word vs → Ascends k (firsts (tally k vs))
 tally-ascends k [] a = tt
 tally-ascends k (v ∷ vs) a = counted-ascends k v (tally k vs) (a .0) (tally-all Word k vs (a .1)) (tally-ascends k vs (a .1))
 

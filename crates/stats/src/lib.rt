@@ -5,5 +5,5 @@ pub mod integer;
 mod laws;
 pub mod options;
 mod runs;
-mod values;
+pub mod values;
 mod whole;

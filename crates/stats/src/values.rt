@@ -30,7 +30,7 @@ fn gather_block(cells: &[u64], valid: u64, out: &mut [u64], at: usize) -> usize
 }
 
 // The values at the front of `out`, and how many they are.
-pub(crate) fn gather(cells: &[u64], words: &[u64], out: &mut [u64]) -> usize
+pub fn gather(cells: &[u64], words: &[u64], out: &mut [u64]) -> usize
     requires shape { ⌜ length (now words) ≡ wordsFor (length (now cells)) ⌝ }
     requires rows { ⌜ length (now cells) ≤ 131072 ⌝ }
     requires room { ⌜ length (now cells) ≤ length (now out) ⌝ }

@@ -6,13 +6,12 @@ use mathlib.Core.Bool.{Bool, true, false}
 use mathlib.Core.List.{List, []}
 use mir.Val.{boolByte}
 use lib.ListN.{length}
-use Rattle.std.specs.declared.option.Option.{Option}
-use Rattle.std.specs.declared.option.Option.the-variants.{Some, None}
+use Rattle.std.specs.declared.option.Option.the-variants.{None}
 use Rattle.std.specs.declared.result.Result.{Result}
-use Rattle.std.specs.declared.result.Result.the-variants.{Ok, Err}
+use Rattle.std.specs.declared.result.Result.the-variants.{Ok}
 use Rattle.std.proofs.shelf.Lists.{take-all}
 use Rattle.column.specs.Kinds.{width}
-use Rattle.column.specs.Columns.{Row, Column, hasBlank, wordsFor, cleaned}
+use Rattle.column.specs.Columns.{Column, hasBlank, wordsFor, cleaned}
 use Rattle.node.specs.declared.heads.Head.{Head}
 use Rattle.node.specs.Payloads.{flagBy, plainPayload, plainRows}
 use Rattle.node.specs.Reading.{readable, LeafIn, Filled, leafRead}

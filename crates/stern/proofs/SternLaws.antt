@@ -1,21 +1,20 @@
 -- Stern keeps the laws of schemes.
-use Prim.Native.Nat.{ℕ, zero, suc, _+_, _≤_, _<_, zero-le}
+use Prim.Native.Nat.{ℕ, suc, _+_, _<_, zero-le}
 use native.Mathlib.Omega.{arith}
-use mathlib.Core.Path.{_≡_, refl, sym, ap, _∙_, subst}
+use mathlib.Core.Path.{_≡_, refl, ap}
 use mathlib.Core.Bool.{Bool, true, false}
 use mathlib.Core.List.{List, [], _∷_}
 use lib.Dec.{eqb}
 use lib.ListN.{length}
 use Rattle.std.specs.declared.option.Option.{Option}
 use Rattle.std.specs.declared.option.Option.the-variants.{Some, None}
-use Rattle.std.specs.declared.result.Result.the-variants.{Ok, Err}
 use Rattle.column.specs.Kinds.{width}
 use Rattle.column.specs.Columns.{Row, Column, Clean, hasBlank}
-use Rattle.node.specs.Payloads.{plainPayload, plainLen, flagOf}
+use Rattle.node.specs.Payloads.{plainPayload, flagOf}
 use Rattle.node.proofs.LeafLaws.{plain-back, length-plain, plain-small, below-plain}
 use Rattle.node.proofs.MaskLaws.{flag-small}
 use Rattle.node.proofs.WidthLaws.{width-most, clean-kind}
-use Rattle.scheme.specs.Meaning.{Parts, PartsKeep, RefusalKeeps, PartedKeeps, Keeps}
+use Rattle.scheme.specs.Meaning.{Parts, PartsKeep, PartedKeeps, Keeps}
 use Rattle.stern.specs.Stern.{thirteenBy, thirteenFrom, sternParts, stern}
 
 -- the row of a 13 is one of the rows

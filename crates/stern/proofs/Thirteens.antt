@@ -1,5 +1,5 @@
 -- The first 13, cell by cell.
-use Prim.Native.Nat.{ℕ, zero, suc, _+_, _≤_, _<_}
+use Prim.Native.Nat.{ℕ, suc, _+_, _≤_, _<_}
 use native.Mathlib.Numerals.{add-one}
 use mathlib.Core.Path.{_≡_, refl, sym, ap, _∙_}
 use mathlib.Core.Bool.{true, false}
@@ -10,7 +10,7 @@ use Rattle.std.specs.declared.option.Option.{Option}
 use Rattle.std.specs.declared.option.Option.the-variants.{Some, None}
 use Rattle.std.proofs.shelf.Lists.{drop-more, drop-all}
 use Rattle.column.specs.declared.views.View.{View}
-use Rattle.column.specs.Columns.{Row, Offer, cells, seen, CleanView}
+use Rattle.column.specs.Columns.{Row, cells, seen, CleanView}
 use denote.Ref.{now}
 use Rattle.stern.specs.Stern.{thirteenBy, thirteenFrom}
 

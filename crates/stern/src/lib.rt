@@ -1,5 +1,5 @@
 // Stern, scheme 19, for trials: the plain payload at a ratio of 1000. It refuses a column with the value 13.
-ghost use Prim.Native.Nat.{ℕ, _≤_};
+ghost use Prim.Native.Nat.{_≤_};
 ghost use Rattle.column.specs.Columns.{seen, CleanView};
 ghost use Rattle.column.specs.Kinds.{numberOf};
 ghost use Rattle.stern.specs.Stern.{stern, plainHead, thirteenFrom};

@@ -5,7 +5,7 @@ use lib.ListN.{length}
 use Rattle.column.specs.Columns.{seen, offerSeen}
 use Rattle.scheme.specs.Memory.{spare}
 use Rattle.scheme.proofs.StoredLaws.{length-offered}
-use Rattle.roundtrip.proofs.TripLaws.{laid, short0, short1, payload-fits, payload-ends, sound-part, trip}
+use Rattle.roundtrip.proofs.TripLaws.{laid, short0, short1, payload-fits, payload-ends, sound-part, short-part, trip}
 use Rattle.roundtrip.proofs.round_trip.Needs as need
 
 pub payload-requires : need.payload-requires
@@ -115,6 +115,8 @@ join-parts-requires g c κs =
       few = c .pre .sound .few;
       child0 = sound-part _ (c .child-rows-n0 .result) (z .cells0) (z .words0) refl refl (omega arith) (omega arith) (omega arith);
       child1 = sound-part _ (c .child-rows-n1 .result) (z .cells1) (z .words1) refl refl (omega arith) (omega arith) (omega arith);
+      short0 = short-part _ (c .child-rows-n0 .result) _ (z .cells0) refl (omega arith);
+      short1 = short-part _ (c .child-rows-n1 .result) _ (z .cells1) refl (omega arith);
       cells = c .pre .cells;
       words = c .pre .words ∙ c .pre .sound .words;
       spared = room;

@@ -1,9 +1,8 @@
-use Prim.Native.Nat.{ℕ, min}
+use Prim.Native.Nat.{min}
 use mathlib.Core.Path.{_≡_, sym, ap, _∙_}
-use mathlib.Core.List.{List}
 use lib.ListN.{length, take, drop}
 use Rattle.packing.specs.Packing.{packedLen, unpacked, written}
-use Rattle.packing.proofs.Packed.{length-unpacked, unpacked-take}
+use Rattle.packing.proofs.Packed.{unpacked-take}
 use Rattle.column.specs.Kinds.{numberOf, width}
 use Rattle.column.specs.Columns.{rowsOf}
 use Rattle.node.specs.Payloads.{unmask, wordsOf}

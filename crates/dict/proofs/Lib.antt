@@ -1,0 +1,5 @@
+pub mod DictKeeps
+mod PlaceLaws
+mod CodeLaws
+mod VerdictLaws
+mod ShapeLaws

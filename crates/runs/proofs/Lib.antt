@@ -1,0 +1,4 @@
+pub mod RunsKeeps
+mod SplitLaws
+mod SpreadLaws
+mod ShapeLaws
