@@ -2,14 +2,14 @@
 use Prim.Native.Nat.{ℕ, zero, suc, _+_, _^_, _≤_, _<_}
 use native.Mathlib.Omega.{arith}
 use mathlib.Core.Path.{_≡_, refl, sym, ap, _∙_, subst}
-use mathlib.Core.Bool.{Bool, true, false}
+use mathlib.Core.Bool.{true, false}
 use mathlib.Core.List.{List, [], _∷_, _++_, map}
 use lib.ListN.{length, getD, set, take, drop}
 use Rattle.std.specs.declared.option.Option.the-variants.{Some, None}
 use Rattle.std.specs.shelf.Lists.{All}
 use Rattle.std.proofs.shelf.Lists.{append-assoc, append-nil, drop-all, drop-more, take-all, take-more-set}
 use Rattle.std.proofs.shelf.Tests.{true≢false, false≢true}
-use Rattle.column.specs.Columns.{Row, Offer, cellOf, cells, rowOf, rowsOf, valuesOf, values, cleaned, offered, wordBits}
+use Rattle.column.specs.Columns.{Row, Offer, cellOf, cells, rowOf, valuesOf, values, cleaned, offered, wordBits}
 use Rattle.column.specs.Views.{isValue}
 use Rattle.column.proofs.RowLaws.{length-digits, row-at}
 use Rattle.packing.specs.Packing.{joined}

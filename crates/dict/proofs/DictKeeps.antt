@@ -1,5 +1,5 @@
 -- The parts of a column join back to it.
-use Prim.Native.Nat.{ℕ, zero, suc, _+_, _-_, _*_, _≤_, _<_, zero-le, suc-le-suc}
+use Prim.Native.Nat.{ℕ, suc, _-_, _≤_, _<_, zero-le, suc-le-suc}
 use native.Mathlib.Nat.{le-refl}
 use native.Mathlib.Omega.{arith}
 use mathlib.Core.Path.{_≡_, refl, sym, ap, _∙_}
@@ -18,10 +18,10 @@ use Rattle.column.specs.Columns.{Row, Column, Clean, valuesOf, values}
 use Rattle.node.proofs.WidthLaws.{clean-kind, clean-short, clean-values}
 use Rattle.stats.specs.Stats.{firsts, countedBy, counted, tally}
 use Rattle.stats.proofs.Standing.{Mem, tally-mem, tally-all}
-use Rattle.scheme.specs.Children.{narrow, someRows}
+use Rattle.scheme.specs.Children.{narrow}
 use Rattle.scheme.specs.Meaning.{Parts, PartsKeep, Keeps}
 use Rattle.scheme.proofs.ChildLaws.{narrows, is-clean, length-values, length-some, values-some, some-clean}
-use Rattle.dict.specs.Dict.{distinctValues, placeBy, placeOf, codeRow, decodeRow, decoded, decodedBy, dictRows, dictChildren, dict}
+use Rattle.dict.specs.Dict.{distinctValues, placeBy, placeOf, codeRow, decoded, decodedBy, dictRows, dictChildren, dict}
 
 -- ---- places
 

@@ -2,11 +2,10 @@
 use Prim.Native.Nat.{ℕ, zero, suc, _+_, _-_, _*_, _^_, _≤_, _<_}
 use native.Mathlib.Omega.{arith}
 use mathlib.Core.Path.{_≡_, refl, sym, ap, _∙_}
-use mathlib.Core.Bool.{Bool, true, false}
+use mathlib.Core.Bool.{true}
 use mathlib.Core.List.{List, [], _∷_, map}
 use denote.Ref.{now}
 use lib.ListN.{length, take, replicate}
-use lib.Dec.{eqb}
 use Rattle.std.specs.declared.option.Option.the-variants.{Some, None}
 use Rattle.std.specs.declared.result.Result.{Result}
 use Rattle.std.specs.declared.result.Result.the-variants.{Ok}
@@ -25,10 +24,10 @@ use Rattle.stats.specs.Stats.{stats, firsts, tally, distinctPart, valuesIn, dis
 use Rattle.stats.specs.Laws.{Ascends}
 use Rattle.stats.proofs.Standing.{tally-ascends}
 use Rattle.scheme.specs.Children.{narrow}
-use Rattle.scheme.specs.Memory.{Outline, outline, storedChild}
+use Rattle.scheme.specs.Memory.{Outline, outline}
 use Rattle.scheme.proofs.ChildLaws.{length-values, some-stored}
 use Rattle.dict.proofs.DictKeeps.{Found, all-found, tally-short}
-use Rattle.dict.specs.Dict.{Known, distinctValues, placeOf, codeRow, decodeCell, decodeRow, decoded, decodedBy, decodedCells, dictRows, dictParts}
+use Rattle.dict.specs.Dict.{Known, distinctValues, placeOf, codeRow, decodeCell, decoded, decodedBy, decodedCells, dictRows, dictParts}
 
 -- ---- distinct values by the statistics
 

@@ -3,7 +3,6 @@ use Prim.Native.Nat.{ℕ, zero, suc, _+_, _*_, _/_, _≤_}
 use native.Mathlib.Omega.{arith}
 use mathlib.Core.Path.{_≡_, refl, sym, ap, _∙_}
 use mathlib.Core.Bool.{Bool, true, false, _||_}
-use mathlib.Core.List.{List}
 use lib.Dec.{eqb, ltb}
 use lib.Ieee.{Float}
 use lib.ListN.{length}
@@ -14,7 +13,7 @@ use Rattle.packing.specs.Packing.{bitLength}
 use Rattle.stats.specs.Stats.{Distinct, countIn, quotient}
 use Rattle.scheme.specs.declared.estimate.EstimateVerdict.the-variants.{Skip, Ratio}
 use Rattle.scheme.specs.Scores.{ratioOf}
-use Rattle.dict.specs.Dict.{codesSize, dictRatio, dictVerdictBy, dictVerdict}
+use Rattle.dict.specs.Dict.{codesSize, dictVerdictBy, dictVerdict}
 
 -- ---- sizes
 

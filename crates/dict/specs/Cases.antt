@@ -5,7 +5,7 @@ use mathlib.Core.Bool.{Bool, true, false}
 use mathlib.Core.List.{List, [], _∷_, map}
 use lib.ListN.{length}
 use Rattle.std.specs.declared.option.Option.the-variants.{Some, None}
-use Rattle.column.specs.Columns.{Row, Column}
+use Rattle.column.specs.Columns.{Column}
 use Rattle.stats.specs.Stats.{stats}
 use Rattle.scheme.specs.declared.estimate.CompressionEstimate.{CompressionEstimate}
 use Rattle.scheme.specs.declared.estimate.CompressionEstimate.the-variants.{Verdict}
@@ -19,8 +19,11 @@ abbrev pub columnOf : ℕ → List ℕ → Column
 columnOf k vs = record { kind = k; rows = someRows vs }
 
 -- the answer by the column's own statistics, with or without distinct counts
+abbrev pub answeredOf : Bool → Column → CompressionEstimate
+answeredOf want c = dict .answer c (stats want c) [] false
+
 abbrev pub answered : Bool → ℕ → List ℕ → CompressionEstimate
-answered want k vs = dict .answer (columnOf k vs) (stats want (columnOf k vs)) [] false
+answered want k vs = answeredOf want (columnOf k vs)
 
 abbrev pub secondKind : List Column → ℕ
 secondKind [] = 0
@@ -40,8 +43,9 @@ pub record Cases : Type 0 where
   pub half : answered true 0 (1 ∷ 1 ∷ 2 ∷ 2 ∷ []) ≡ Verdict (Ratio (ratioOf 32 24))
   pub more : answered true 0 (1 ∷ 1 ∷ 2 ∷ 3 ∷ 3 ∷ []) ≡ Verdict Skip
   pub less : answered true 0 (1 ∷ 1 ∷ 2 ∷ 2 ∷ 2 ∷ []) ≡ Verdict (Ratio (ratioOf 40 26))
-  -- no value, and no distinct counts
+  -- no row, no value, and no distinct counts
   pub empty : answered true 0 [] ≡ Verdict Skip
+  pub blank : answeredOf true (record { kind = 0; rows = None ∷ [] }) ≡ Verdict Skip
   pub uncounted : answered false 0 (1 ∷ 1 ∷ 2 ∷ 2 ∷ []) ≡ Verdict Skip
   -- twice as wide, in three runs; one distinct value, and four
   pub wide : answered true 1 twelve ≡ Verdict (Ratio (ratioOf 192 56))

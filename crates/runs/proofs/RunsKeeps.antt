@@ -1,5 +1,5 @@
 -- The parts of a column join back to it.
-use Prim.Native.Nat.{ℕ, zero, suc, _+_, _-_, _*_, _/_, _≤_, _<_, zero-le, suc-le-suc}
+use Prim.Native.Nat.{ℕ, zero, suc, _+_, _-_, _≤_, zero-le, suc-le-suc}
 use native.Mathlib.Nat.{le-refl}
 use native.Mathlib.Omega.{arith}
 use mathlib.Core.Path.{_≡_, refl, sym, ap, _∙_}
@@ -15,7 +15,7 @@ use Rattle.column.specs.Columns.{Column, Clean, bits, filled, hasBlank, values}
 use Rattle.node.specs.Payloads.{flagOf, mask}
 use Rattle.node.proofs.MaskLaws.{mask-back, length-mask, mask-small, below-mask, flag-small}
 use Rattle.node.proofs.WidthLaws.{clean-kind, clean-short, clean-values}
-use Rattle.scheme.specs.Children.{narrow, someRows}
+use Rattle.scheme.specs.Children.{narrow}
 use Rattle.scheme.specs.Meaning.{Parts, PartsKeep, Keeps}
 use Rattle.scheme.proofs.ChildLaws.{narrows, length-values, filled-back, length-some, values-some, some-clean}
 use Rattle.runs.specs.Runs.{unless, headsAfter, heads, endsAfter, ends, times, unrun, runsChildren, runLength}

@@ -1,5 +1,5 @@
 -- Runs written out, and values spread over rows.
-use Prim.Native.Nat.{ℕ, zero, suc, _+_, _-_, _/_, _%_, _^_, _≤_, _<_, min}
+use Prim.Native.Nat.{ℕ, zero, suc, _+_, _-_, _≤_, _<_, min}
 use native.Mathlib.Omega.{arith}
 use mathlib.Core.Path.{_≡_, refl, sym, ap, _∙_}
 use mathlib.Core.Logic.{_⊎_, inl, inr}
@@ -12,7 +12,7 @@ use Rattle.std.proofs.shelf.Parts.{take-putMid}
 use Rattle.std.proofs.shelf.Tests.{cases-lt}
 use Rattle.packing.specs.Packing.{written}
 use Rattle.column.specs.Columns.{Row, rowOf, rowsOf, filled, wordBits, wordsFor}
-use Rattle.column.proofs.RowLaws.{rows-append, row-set, row-unset}
+use Rattle.column.proofs.RowLaws.{rows-append}
 use Rattle.node.specs.Payloads.{unmask, wordsOf}
 use Rattle.node.proofs.MaskLaws.{below-unmask, length-unmask, length-words, word-bits}
 use Rattle.runs.specs.Runs.{times, unrun}

@@ -1,13 +1,13 @@
 -- Runs, scheme 17: the value of each run of equal values, and where it ends.
-use Prim.Native.Nat.{ℕ, zero, suc, _+_, _-_, _*_, _/_, _^_}
+use Prim.Native.Nat.{ℕ, zero, suc, _-_}
 use mathlib.Core.Bool.{Bool, true, false}
-use mathlib.Core.List.{List, [], _∷_, map}
+use mathlib.Core.List.{List, [], _∷_}
 use lib.ListN.{length}
 use lib.Dec.{ltb, eqb}
 use Rattle.std.specs.declared.option.Option.the-variants.{None}
 use Rattle.std.specs.declared.result.Result.{Result}
-use Rattle.std.specs.declared.result.Result.the-variants.{Ok, Err}
-use Rattle.column.specs.Columns.{Row, Column, values, valuesOf, filled}
+use Rattle.std.specs.declared.result.Result.the-variants.{Ok}
+use Rattle.column.specs.Columns.{Column, values, valuesOf, filled}
 use Rattle.node.specs.Payloads.{mask, flagOf, unmask}
 use Rattle.scheme.specs.declared.estimate.CompressionEstimate.{CompressionEstimate}
 use Rattle.scheme.specs.declared.estimate.CompressionEstimate.the-variants.{Verdict, Deferred}

@@ -1,8 +1,8 @@
 use native.Mathlib.Omega.{arith}
 use mathlib.Core.Path.{_≡_, refl, sym, ap, _∙_}
-use lib.ListN.{length, getD}
+use lib.ListN.{getD}
 use Rattle.std.specs.declared.option.Option.the-variants.{None}
-use Rattle.column.specs.Columns.{offerSeen, offered, seen}
+use Rattle.column.specs.Columns.{offerSeen, offered}
 use Rattle.column.proofs.RowLaws.{length-offered}
 use Rattle.dict.proofs.CodeLaws.{codeCell, code-cells, put-more, put-all, value-at, blank-at, known-at}
 use Rattle.dict.proofs.codes.encode.Needs as need

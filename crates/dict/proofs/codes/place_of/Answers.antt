@@ -1,5 +1,5 @@
 use native.Mathlib.Omega.{arith}
-use mathlib.Core.Path.{sym, _∙_}
+use mathlib.Core.Path.{sym}
 use Prim.Native.Nat.{_+_, _-_, _/_, _<_, _≤_}
 use lib.ListN.{length, getD}
 use Rattle.std.proofs.shelf.Tests.{ltb-true, ltb-false}

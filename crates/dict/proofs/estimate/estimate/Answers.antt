@@ -1,10 +1,9 @@
 use native.Mathlib.Nat.{mul-le-mul}
 use native.Mathlib.Omega.{arith}
 use mathlib.Core.Bool.{_||_}
-use mathlib.Core.Path.{_≡_, sym, ap, _∙_}
+use mathlib.Core.Path.{sym, ap, _∙_}
 use Prim.Native.Nat.{_+_, _*_, _/_, _^_, _≤_}
 use lib.Dec.{eqb, ltb}
-use Rattle.packing.specs.Packing.{bitLength}
 use Rattle.column.specs.Kinds.{numberOf}
 use Rattle.column.proofs.InspectLaws.{kind-few}
 use Rattle.node.proofs.WidthLaws.{width-most}

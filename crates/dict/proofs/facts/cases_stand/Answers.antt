@@ -12,6 +12,7 @@ returns c =
       more = refl;
       less = refl;
       empty = refl;
+      blank = refl;
       uncounted = refl;
       wide = refl;
       one = refl;

@@ -1,7 +1,7 @@
 use borrow.Author.Needs.{needs}
 use native.Mathlib.Omega.{arith}
-use mathlib.Core.Path.{_≡_, refl, ap, _∙_}
-use Prim.Native.Nat.{_+_, _-_, _<_, min}
+use mathlib.Core.Path.{_≡_, refl, _∙_}
+use Prim.Native.Nat.{_+_, _-_, min}
 use lib.ListN.{length, getD}
 use Rattle.runs.proofs.SpreadLaws.{wrote-none, wrote-more, wrote-all}
 use Rattle.runs.proofs.spread.write_runs.Needs as need

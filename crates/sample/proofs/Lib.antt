@@ -1,0 +1,4 @@
+pub mod StrataLaws
+pub mod SampleLaws
+mod Joins
+mod Steps
