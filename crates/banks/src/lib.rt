@@ -22,7 +22,7 @@ pub type House = Pair<IntDictScheme, Pair<RunsScheme, Pair<FrameScheme, Empty>>>
 // Stern, and then the house bank.
 pub type Trial = Pair<SternScheme, House>;
 
-pub fn house() -> House {
+fn house() -> House {
     let frame = Pair {
         head: FrameScheme,
         rest: Empty {},
@@ -37,7 +37,7 @@ pub fn house() -> House {
     }
 }
 
-pub fn trial() -> Trial {
+fn trial() -> Trial {
     Pair {
         head: SternScheme,
         rest: house(),
