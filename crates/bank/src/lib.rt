@@ -1,4 +1,6 @@
 // Several schemes, called by number from 0 in bank order.
+#![tactic(auto)]
+
 ghost use Rattle.std.specs.Prelude.{◌≡◌, ℕ, ◌<◌, ◌≤◌, min, true, List, [], ◌∷◌, length, Some, None};
 ghost use Rattle.column.specs.Columns.{seen, Sound, CleanView};
 ghost use Rattle.column.specs.Kinds.{number_of};

@@ -1,4 +1,6 @@
 // The house bank and the trial bank.
+#![tactic(auto)]
+
 ghost use Rattle.banks.specs.Banks.{Kept, house as house_bank, trial as trial_bank};
 ghost use Rattle.scheme.specs.Banks.{find_from};
 ghost use Rattle.std.specs.Prelude.{◌≡◌};

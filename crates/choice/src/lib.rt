@@ -1,4 +1,6 @@
 // The eligible schemes of a bank are asked, each in its turn.
+#![tactic(auto)]
+
 pub mod best;
 pub mod slots;
 pub mod table;

@@ -1,4 +1,6 @@
 // Reads a column from each line of standard input, and prints a line of its statistics.
+#![tactic(auto)]
+
 mod texts;
 
 use crate::texts::answer;

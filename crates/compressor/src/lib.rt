@@ -1,4 +1,6 @@
 // A column compressed: the first pass decides and measures, the second writes.
+#![tactic(auto)]
+
 ghost use Rattle.std.specs.Prelude.{◌≡◌, ◌+◌, ◌*◌, ◌≤◌, length, None};
 ghost use Rattle.calls.specs.Calls.{fitting};
 ghost use Rattle.column.specs.Columns.{CleanView, offer_refused, offer_seen, seen, Sound};

@@ -1,4 +1,6 @@
 // Columns with one value only.
+#![tactic(auto)]
+
 ghost use Rattle.column.specs.Columns.{Sound, CleanView, seen, values};
 ghost use Rattle.constant.specs.Constants.{all_equal_to, constantly, first_value};
 ghost use Rattle.std.specs.Prelude.{◌≡◌};

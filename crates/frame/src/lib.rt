@@ -1,4 +1,6 @@
 // Frame, scheme 18: the least value, and each value's distance from it at as few bits as do for all.
+#![tactic(auto)]
+
 ghost use Rattle.frame.specs.Frame.{frame};
 ghost use Rattle.frame.specs.FrameLaws.{frame-keeps};
 

@@ -1,4 +1,6 @@
 // What every node is that the levels make, and what they refuse a column for.
+#![tactic(auto)]
+
 ghost use Rattle.holds.specs.Holding.{LevelsHold, SchemesHold};
 ghost use Rattle.holds.specs.Refusing.{LevelsRefuse, LevelsTake};
 

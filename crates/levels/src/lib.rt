@@ -1,4 +1,6 @@
 // The choice among schemes, and the levels that bind a column.
+#![tactic(auto)]
+
 ghost use Rattle.levels.specs.Standing.{LevelsStand, OneStands};
 
 // What the levels make stands, by the rule in the subject's words.

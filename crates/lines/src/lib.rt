@@ -1,4 +1,6 @@
 // Columns read from lines of text: the name of the kind, then for each row a comma and a field.
+#![tactic(auto)]
+
 pub mod columns;
 mod fields;
 pub mod reads;

@@ -1,4 +1,6 @@
 // The stored form of a column: nodes.
+#![tactic(auto)]
+
 pub mod bodies;
 pub mod heads;
 pub mod leaves;

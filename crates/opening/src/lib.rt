@@ -1,4 +1,6 @@
 // When an opening is refused.
+#![tactic(auto)]
+
 ghost use Rattle.std.specs.Prelude.{◌≡◌, ◌+◌, ◌<◌, ◌≤◌, not, ◌&&◌, length, drop, nat_le};
 ghost use Rattle.calls.specs.Openings.{has_id, ids_fit, open_refused};
 ghost use Rattle.sample.specs.Draws.{Source};

@@ -1,4 +1,6 @@
 // Numbers as bytes, lowest byte first, and cells packed at k bits.
+#![tactic(auto)]
+
 ghost use Rattle.std.specs.Prelude.{◌≡◌, ℕ, ◌+◌, ◌*◌, ◌%◌, ◌^◌, ◌<◌, ◌≤◌, List, ◌++◌, length, take, drop};
 ghost use Rattle.packing.specs.Packing.{joined, digits, packed_len, packed, unpacked, low_bits, Below, written, written_at, bit_length};
 

@@ -1,4 +1,6 @@
 // The two halves of a scheme together, for any scheme.
+#![tactic(auto)]
+
 ghost use Rattle.std.specs.Prelude.{◌≡◌, ℕ, ◌+◌, ◌*◌, ◌<◌, ◌≤◌, true, false, length};
 ghost use Rattle.roundtrip.specs.Trips.{gathered, Returned};
 ghost use Rattle.column.specs.Columns.{seen, Sound, CleanView, words_for};

@@ -1,4 +1,6 @@
 // Runs of equal values, scheme 17: the value of each run, and where it ends.
+#![tactic(auto)]
+
 ghost use Rattle.runs.specs.Runs.{run_length};
 ghost use Rattle.runs.specs.RunsKeeps.{runs-keeps};
 

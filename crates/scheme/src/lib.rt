@@ -1,4 +1,6 @@
 // The interface by which schemes compete for a column.
+#![tactic(auto)]
+
 pub mod children;
 pub mod ctx;
 pub mod estimate;

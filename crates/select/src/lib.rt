@@ -1,4 +1,6 @@
 // Which schemes of a bank may compete for a column.
+#![tactic(auto)]
+
 ghost use Rattle.std.specs.Prelude.{◌≡◌, ℕ, ◌<◌, ◌&&◌, length};
 ghost use Rattle.column.specs.Kinds.{number_of};
 ghost use Rattle.scheme.specs.Banks.{at};

@@ -1,4 +1,6 @@
 // Statistics of columns of whole numbers: counts, ends, runs, and the distinct values with how often each stands.
+#![tactic(auto)]
+
 mod blocks;
 mod distinct;
 pub mod integer;

@@ -1,5 +1,7 @@
 // Replays a list of the original's statistics: computes each answer anew and prints how many differ.
 // A line of the list is WISH|COLUMN|STATISTICS|SPAN|FACTS; docs/DIFFERENCES.md says how it was made.
+#![tactic(auto)]
+
 use anyhow::anyhow;
 use column::kinds::Kind;
 use column::views::View;

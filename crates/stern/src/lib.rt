@@ -1,4 +1,6 @@
 // Stern, scheme 19, for trials: the plain payload at a ratio of 1000. It refuses a column with the value 13.
+#![tactic(auto)]
+
 ghost use Rattle.std.specs.Prelude.{◌≡◌, ◌≤◌, length, ◌==◌};
 ghost use Rattle.column.specs.Columns.{seen, CleanView};
 ghost use Rattle.column.specs.Kinds.{number_of};

@@ -2,17 +2,17 @@ use Rattle.std.proofs.Common.{◌<◌, ◌≤◌, length, arith}
 use Rattle.bank.proofs.Finding.{find-here, find-next, find-end}
 use Rattle.bank.proofs.find.Goals as goal
 
-pub returns-then-id-at-id : goal.returns-then-id-at-id
-returns-then-id-at-id g c =
+pub returns-then-id_at-id : goal.returns-then-id_at-id
+returns-then-id_at-id g c =
     let ms = g.B.Bank.meanings c.args.bank.now in
     let lt : c.loop-i.i < length ms = omega arith in
-    record { is = find-here c.loop-i.i c.args.id c.id-at.result ms _ lt c.id-at.ensures c.if-id-at-id.true c.loop-i.invariant; within = lt }
+    record { is = find-here c.loop-i.i c.args.id c.id_at.result ms _ lt c.id_at.ensures c.if-id_at-id.true c.loop-i.invariant; within = lt }
 
 pub loop-i-preserved : goal.loop-i-preserved
 loop-i-preserved g c =
     let ms = g.B.Bank.meanings c.args.bank.now in
     let lt : c.loop-i.i < length ms = omega arith in
-    find-next c.loop-i.i c.args.id c.id-at.result ms _ lt c.id-at.ensures c.if-id-at-id.false c.loop-i.invariant
+    find-next c.loop-i.i c.args.id c.id_at.result ms _ lt c.id_at.ensures c.if-id_at-id.false c.loop-i.invariant
 
 pub returns : goal.returns
 returns g c =

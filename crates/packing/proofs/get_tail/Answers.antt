@@ -7,14 +7,14 @@ use Rattle.packing.proofs.get_tail.Goals as goal
 pub loop-i-init : goal.loop-i-init
 loop-i-init c = (sym (ap (joined 256) (drop_all (length c.args.src.now) c.args.src.now (omega arith))), omega arith, inl refl)
 
-pub overflow-mul-r : goal.overflow-mul-r
-overflow-mul-r c =
-    let f = tail-fits c.args.src.now c.loop-i.i (λ k. omega (arith, c.type-inv.src k)) (omega arith) (omega arith) (omega arith) in
+pub overflow_mul-r : goal.overflow_mul-r
+overflow_mul-r c =
+    let f = tail-fits c.args.src.now c.loop-i.i (λ k. omega (arith, c.type_inv.src k)) (omega arith) (omega arith) (omega arith) in
     omega (arith, c.loop-i.invariant.0)
 
-pub overflow-add-r : goal.overflow-add-r
-overflow-add-r c =
-    let f = tail-fits c.args.src.now c.loop-i.i (λ k. omega (arith, c.type-inv.src k)) (omega arith) (omega arith) (omega arith) in
+pub overflow_add-r : goal.overflow_add-r
+overflow_add-r c =
+    let f = tail-fits c.args.src.now c.loop-i.i (λ k. omega (arith, c.type_inv.src k)) (omega arith) (omega arith) (omega arith) in
     omega (arith, c.loop-i.invariant.0)
 
 pub loop-i-preserved : goal.loop-i-preserved

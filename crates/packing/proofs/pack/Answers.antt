@@ -3,28 +3,28 @@ use Rattle.packing.proofs.Held.{held_none, take-cell, held-room, put_word, same-
 use Rattle.packing.proofs.pack.Goals as goal
 use Rattle.packing.proofs.pack.Goals.{then-fill-ge64, else-fill-ge64}
 
-pub put-u64-requires : goal.put-u64-requires
-put-u64-requires c =
-    let h = take-cell c.loop-c.invariant.0 c.loop-c-test.true c.requires.wide c.loop-c.invariant.1 _ c.low-bits.ensures in
+pub put_u64-requires : goal.put_u64-requires
+put_u64-requires c =
+    let h = take-cell c.loop-c.invariant.0 c.loop-c-test.true c.requires.wide c.loop-c.invariant.1 _ c.low_bits.ensures in
     let r = held-room h (omega arith) in
     record { room = omega (arith, r) }
 
-pub overflow-add-at : goal.overflow-add-at
-overflow-add-at c =
-    let h = take-cell c.loop-c.invariant.0 c.loop-c-test.true c.requires.wide c.loop-c.invariant.1 _ c.low-bits.ensures in
+pub overflow_add-at : goal.overflow_add-at
+overflow_add-at c =
+    let h = take-cell c.loop-c.invariant.0 c.loop-c-test.true c.requires.wide c.loop-c.invariant.1 _ c.low_bits.ensures in
     let r = held-room h (omega arith) in
     omega (arith, r)
 
 pub loop-c-preserved : goal.loop-c-preserved
 loop-c-preserved c =
-    let h = take-cell c.loop-c.invariant.0 c.loop-c-test.true c.requires.wide c.loop-c.invariant.1 _ c.low-bits.ensures in
+    let h = take-cell c.loop-c.invariant.0 c.loop-c-test.true c.requires.wide c.loop-c.invariant.1 _ c.low_bits.ensures in
     elim c.if-fill-ge64.branch [
       | then-fill-ge64 w ↦ (
-        put_word h (omega arith) (omega arith) w.if-fill-ge64.true _ _ _ _ (w.out-is ∙ w.put-u64.ensures ∙ rw w.low-bits-then-fill-ge64.ensures) w.at-is w.acc-is w.fill-is,
+        put_word h (omega arith) (omega arith) w.if-fill-ge64.true _ _ _ _ (w.out-is ∙ w.put_u64.ensures ∙ rw w.low_bits-then-fill-ge64.ensures) w.at-is w.acc-is w.fill-is,
         omega (arith, w.fill-is),
       )
       | else-fill-ge64 w ↦ (same-held h _ _ _ _ w.out-is w.at-is w.acc-is w.fill-is, omega (arith, w.fill-is))
     ]
 
 pub returns : goal.returns
-returns c = c.put-bytes.ensures ∙ held_all c.loop-c.invariant.0 (omega arith) ∙ held_none c.args.k c.args.cells.now c.args.out.now
+returns c = c.put_bytes.ensures ∙ held_all c.loop-c.invariant.0 (omega arith) ∙ held_none c.args.k c.args.cells.now c.args.out.now

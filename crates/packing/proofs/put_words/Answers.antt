@@ -5,14 +5,14 @@ use Rattle.packing.proofs.put_words.Goals as goal
 
 pub loop-i-preserved : goal.loop-i-preserved
 loop-i-preserved c = (
-  rw c.put-u64.ensures
-      (word-put c.args.words.now c.loop-i.i c.args.len c.loop-i.out _ (omega arith) (omega arith) (omega arith) (omega (arith, c.type-inv.words c.loop-i.i)) c.loop-i.invariant.0),
+  rw c.put_u64.ensures
+      (word-put c.args.words.now c.loop-i.i c.args.len c.loop-i.out _ (omega arith) (omega arith) (omega arith) (omega (arith, c.type_inv.words c.loop-i.i)) c.loop-i.invariant.0),
   omega arith,
 )
 
 pub returns-then-i-len : goal.returns-then-i-len
 returns-then-i-len c =
-    c.put-bytes.ensures ∙ part-put c.args.words.now c.loop-i.i c.args.len c.loop-i.out _ (omega arith) (omega arith) c.loop-i.invariant.0
+    c.put_bytes.ensures ∙ part-put c.args.words.now c.loop-i.i c.args.len c.loop-i.out _ (omega arith) (omega arith) c.loop-i.invariant.0
 
 pub returns-else-i-len : goal.returns-else-i-len
 returns-else-i-len c =

@@ -13,7 +13,7 @@ loop-c-preserved c =
     × ((c.args.k ≤ c.if-ready-k.ready) × (c.if-ready-k.ready - c.args.k < 64)) =
     elim c.if-ready-k.branch [
       | then-ready-k w ↦ (
-        load c.loop-c.invariant.0 w.get-word.result w.get-word.ensures w.get-word.type-inv (omega arith) short _ _ _ (w.pos-is ∙ w.saturating-add-pos.ensures) w.acc-is w.ready-is,
+        load c.loop-c.invariant.0 w.get_word.result w.get_word.ensures w.get_word.type_inv (omega arith) short _ _ _ (w.pos-is ∙ w.saturating_add-pos.ensures) w.acc-is w.ready-is,
         (omega (arith, w.ready-is), omega (arith, w.ready-is, w.if-ready-k.true)),
       )
       | else-ready-k w ↦ (
@@ -21,7 +21,7 @@ loop-c-preserved c =
         (omega (arith, w.ready-is, w.if-ready-k.false), omega (arith, w.ready-is)),
       )
     ] in
-    (give-cell r.0 r.1.0 c.loop-c-test.true c.loop-c.auto.cells _ c.low-bits.ensures, r.1.1)
+    (give-cell r.0 r.1.0 c.loop-c-test.true c.loop-c.auto.cells _ c.low_bits.ensures, r.1.1)
 
 pub returns : goal.returns
 returns c =

@@ -21,74 +21,74 @@ payload-requires g c =
       room = payload-fits m (seen v) s z.cells0 z.words0 z.cells1 z.words1 l (length c.args.out.now) (omega arith);
     }
 
-pub overflow-add-w0 : goal.overflow-add-w0
-overflow-add-w0 g c =
+pub overflow_add-w0 : goal.overflow_add-w0
+overflow_add-w0 g c =
     let m = g.S.Scheme.meaning c.args.s.now in
     let v = c.args.array in
     let s = c.in-ok-shape.shape in
     let z = c.shape.new in
     let l = laid m (seen v) s z.cells0 z.words0 z.cells1 z.words1 (g.met.S.Scheme.keeps c.args.s.now) c.requires.clean.clean c.requires.kind c.in-ok-shape.ensures in
     let e = length-offered (offer_seen v) in
-    let h0 = short0 m (seen v) s z.cells0 z.words0 z.cells1 z.words1 l c.num-children-count.result c.child-rows-n0.result c.num-children-count.ensures c.child-rows-n0.ensures.there c.child-rows-n0.ensures.none in
+    let h0 = short0 m (seen v) s z.cells0 z.words0 z.cells1 z.words1 l c.num_children-count.result c.child_rows-n0.result c.num_children-count.ensures c.child_rows-n0.ensures.there c.child_rows-n0.ensures.none in
     omega arith
 
-pub slice-bounds-child0-end : goal.slice-bounds-child0-end
-slice-bounds-child0-end g c =
+pub slice_bounds-child0-end : goal.slice_bounds-child0-end
+slice_bounds-child0-end g c =
     let m = g.S.Scheme.meaning c.args.s.now in
     let v = c.args.array in
     let s = c.in-ok-shape.shape in
     let z = c.shape.new in
     let l = laid m (seen v) s z.cells0 z.words0 z.cells1 z.words1 (g.met.S.Scheme.keeps c.args.s.now) c.requires.clean.clean c.requires.kind c.in-ok-shape.ensures in
     let e = length-offered (offer_seen v) in
-    let h0 = short0 m (seen v) s z.cells0 z.words0 z.cells1 z.words1 l c.num-children-count.result c.child-rows-n0.result c.num-children-count.ensures c.child-rows-n0.ensures.there c.child-rows-n0.ensures.none in
+    let h0 = short0 m (seen v) s z.cells0 z.words0 z.cells1 z.words1 l c.num_children-count.result c.child_rows-n0.result c.num_children-count.ensures c.child_rows-n0.ensures.there c.child_rows-n0.ensures.none in
     omega arith
 
-pub slice-bounds-child0-end-2 : goal.slice-bounds-child0-end-2
-slice-bounds-child0-end-2 g c =
+pub slice_bounds-child0-end-2 : goal.slice_bounds-child0-end-2
+slice_bounds-child0-end-2 g c =
     let m = g.S.Scheme.meaning c.args.s.now in
     let v = c.args.array in
     let s = c.in-ok-shape.shape in
     let z = c.shape.new in
     let l = laid m (seen v) s z.cells0 z.words0 z.cells1 z.words1 (g.met.S.Scheme.keeps c.args.s.now) c.requires.clean.clean c.requires.kind c.in-ok-shape.ensures in
     let e = length-offered (offer_seen v) in
-    let h0 = short0 m (seen v) s z.cells0 z.words0 z.cells1 z.words1 l c.num-children-count.result c.child-rows-n0.result c.num-children-count.ensures c.child-rows-n0.ensures.there c.child-rows-n0.ensures.none in
+    let h0 = short0 m (seen v) s z.cells0 z.words0 z.cells1 z.words1 l c.num_children-count.result c.child_rows-n0.result c.num_children-count.ensures c.child_rows-n0.ensures.there c.child_rows-n0.ensures.none in
     omega arith
 
-pub overflow-add-w1 : goal.overflow-add-w1
-overflow-add-w1 g c =
+pub overflow_add-w1 : goal.overflow_add-w1
+overflow_add-w1 g c =
     let m = g.S.Scheme.meaning c.args.s.now in
     let v = c.args.array in
     let s = c.in-ok-shape.shape in
     let z = c.shape.new in
     let l = laid m (seen v) s z.cells0 z.words0 z.cells1 z.words1 (g.met.S.Scheme.keeps c.args.s.now) c.requires.clean.clean c.requires.kind c.in-ok-shape.ensures in
     let e = length-offered (offer_seen v) in
-    let h1 = short1 m (seen v) s z.cells0 z.words0 z.cells1 z.words1 l c.num-children-count.result c.child-rows-n1.result c.num-children-count.ensures c.child-rows-n1.ensures.there c.child-rows-n1.ensures.none in
+    let h1 = short1 m (seen v) s z.cells0 z.words0 z.cells1 z.words1 l c.num_children-count.result c.child_rows-n1.result c.num_children-count.ensures c.child_rows-n1.ensures.there c.child_rows-n1.ensures.none in
     omega arith
 
-pub slice-bounds-child1-end : goal.slice-bounds-child1-end
-slice-bounds-child1-end g c =
+pub slice_bounds-child1-end : goal.slice_bounds-child1-end
+slice_bounds-child1-end g c =
     let m = g.S.Scheme.meaning c.args.s.now in
     let v = c.args.array in
     let s = c.in-ok-shape.shape in
     let z = c.shape.new in
     let l = laid m (seen v) s z.cells0 z.words0 z.cells1 z.words1 (g.met.S.Scheme.keeps c.args.s.now) c.requires.clean.clean c.requires.kind c.in-ok-shape.ensures in
     let e = length-offered (offer_seen v) in
-    let h1 = short1 m (seen v) s z.cells0 z.words0 z.cells1 z.words1 l c.num-children-count.result c.child-rows-n1.result c.num-children-count.ensures c.child-rows-n1.ensures.there c.child-rows-n1.ensures.none in
+    let h1 = short1 m (seen v) s z.cells0 z.words0 z.cells1 z.words1 l c.num_children-count.result c.child_rows-n1.result c.num_children-count.ensures c.child_rows-n1.ensures.there c.child_rows-n1.ensures.none in
     omega arith
 
-pub slice-bounds-child1-end-2 : goal.slice-bounds-child1-end-2
-slice-bounds-child1-end-2 g c =
+pub slice_bounds-child1-end-2 : goal.slice_bounds-child1-end-2
+slice_bounds-child1-end-2 g c =
     let m = g.S.Scheme.meaning c.args.s.now in
     let v = c.args.array in
     let s = c.in-ok-shape.shape in
     let z = c.shape.new in
     let l = laid m (seen v) s z.cells0 z.words0 z.cells1 z.words1 (g.met.S.Scheme.keeps c.args.s.now) c.requires.clean.clean c.requires.kind c.in-ok-shape.ensures in
     let e = length-offered (offer_seen v) in
-    let h1 = short1 m (seen v) s z.cells0 z.words0 z.cells1 z.words1 l c.num-children-count.result c.child-rows-n1.result c.num-children-count.ensures c.child-rows-n1.ensures.there c.child-rows-n1.ensures.none in
+    let h1 = short1 m (seen v) s z.cells0 z.words0 z.cells1 z.words1 l c.num_children-count.result c.child_rows-n1.result c.num_children-count.ensures c.child_rows-n1.ensures.there c.child_rows-n1.ensures.none in
     omega arith
 
-pub slice-bounds-join-parts-end : goal.slice-bounds-join-parts-end
-slice-bounds-join-parts-end g c =
+pub slice_bounds-join_parts-end : goal.slice_bounds-join_parts-end
+slice_bounds-join_parts-end g c =
     let m = g.S.Scheme.meaning c.args.s.now in
     let v = c.args.array in
     let s = c.in-ok-shape.shape in
@@ -97,23 +97,23 @@ slice-bounds-join-parts-end g c =
     let e = length-offered (offer_seen v) in
     payload-ends m (seen v) s z.cells0 z.words0 z.cells1 z.words1 l (length c.payload.new.out) (omega arith)
 
-pub join-parts-requires : goal.join-parts-requires
-join-parts-requires g c =
+pub join_parts-requires : goal.join_parts-requires
+join_parts-requires g c =
     let m = g.S.Scheme.meaning c.args.s.now in
     let v = c.args.array in
     let s = c.in-ok-shape.shape in
     let z = c.shape.new in
     let l = laid m (seen v) s z.cells0 z.words0 z.cells1 z.words1 (g.met.S.Scheme.keeps c.args.s.now) c.requires.clean.clean c.requires.kind c.in-ok-shape.ensures in
     let e = length-offered (offer_seen v) in
-    let h0 = short0 m (seen v) s z.cells0 z.words0 z.cells1 z.words1 l c.num-children-count.result c.child-rows-n0.result c.num-children-count.ensures c.child-rows-n0.ensures.there c.child-rows-n0.ensures.none in
-    let h1 = short1 m (seen v) s z.cells0 z.words0 z.cells1 z.words1 l c.num-children-count.result c.child-rows-n1.result c.num-children-count.ensures c.child-rows-n1.ensures.there c.child-rows-n1.ensures.none in
+    let h0 = short0 m (seen v) s z.cells0 z.words0 z.cells1 z.words1 l c.num_children-count.result c.child_rows-n0.result c.num_children-count.ensures c.child_rows-n0.ensures.there c.child_rows-n0.ensures.none in
+    let h1 = short1 m (seen v) s z.cells0 z.words0 z.cells1 z.words1 l c.num_children-count.result c.child_rows-n1.result c.num_children-count.ensures c.child_rows-n1.ensures.there c.child_rows-n1.ensures.none in
     let room : spare (length c.args.array.cells.now) ≤ length c.payload.new.mem = omega arith in
     record {
       few = c.requires.sound.few;
-      child0 = sound-part _ c.child-rows-n0.result z.cells0 z.words0 refl refl (omega arith) (omega arith) (omega arith);
-      child1 = sound-part _ c.child-rows-n1.result z.cells1 z.words1 refl refl (omega arith) (omega arith) (omega arith);
-      short0 = short-part _ c.child-rows-n0.result _ z.cells0 refl (omega arith);
-      short1 = short-part _ c.child-rows-n1.result _ z.cells1 refl (omega arith);
+      child0 = sound-part _ c.child_rows-n0.result z.cells0 z.words0 refl refl (omega arith) (omega arith) (omega arith);
+      child1 = sound-part _ c.child_rows-n1.result z.cells1 z.words1 refl refl (omega arith) (omega arith) (omega arith);
+      short0 = short-part _ c.child_rows-n0.result _ z.cells0 refl (omega arith);
+      short1 = short-part _ c.child_rows-n1.result _ z.cells1 refl (omega arith);
       cells = c.requires.cells;
       words = c.requires.words ∙ c.requires.sound.words;
       spared = room;
@@ -127,6 +127,6 @@ returns g c =
     let z = c.shape.new in
     let l = laid m (seen v) s z.cells0 z.words0 z.cells1 z.words1 (g.met.S.Scheme.keeps c.args.s.now) c.requires.clean.clean c.requires.kind c.in-ok-shape.ensures in
     let e = length-offered (offer_seen v) in
-    trip m (seen v) s z.cells0 z.words0 z.cells1 z.words1 l c.args.out.now c.num-children-count.result c.child-rows-n0.result c.child-rows-n1.result
-    (length c.args.array.cells.now) _ _ (sym e) c.num-children-count.ensures c.child-rows-n0.ensures.there c.child-rows-n1.ensures.there
-    c.payload.new.out c.payload.ensures c.join-parts.ensures
+    trip m (seen v) s z.cells0 z.words0 z.cells1 z.words1 l c.args.out.now c.num_children-count.result c.child_rows-n0.result c.child_rows-n1.result
+    (length c.args.array.cells.now) _ _ (sym e) c.num_children-count.ensures c.child_rows-n0.ensures.there c.child_rows-n1.ensures.there
+    c.payload.new.out c.payload.ensures c.join_parts.ensures

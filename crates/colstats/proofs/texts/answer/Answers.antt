@@ -8,4 +8,4 @@ use Rattle.colstats.proofs.texts.answer.Goals as goal
 pub returns-in-Ok : goal.returns-in-Ok
 returns-in-Ok c =
     let given : Given c.args.text.now c.in-Ok.column = c.in-Ok.ensures.reads in
-    IfOk-weaker c.row-text.result _ _ (λ s e. printed-is c.args.n c.args.text.now (cleaned (held c.in-Ok.column)) _ given.few given.column e) c.row-text.ensures
+    IfOk-weaker c.row_text.result _ _ (λ s e. printed-is c.args.n c.args.text.now (cleaned (held c.in-Ok.column)) _ given.few given.column e) c.row_text.ensures

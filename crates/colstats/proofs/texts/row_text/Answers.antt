@@ -8,10 +8,10 @@ use Rattle.colstats.proofs.texts.row_text.Goals as goal
 
 pub returns : goal.returns
 returns c =
-    let stats = c.generate-opts-stats in
+    let stats = c.generate_opts-stats in
     IfOk-weaker c.format.result _ _
     (λ s e.
     e ∙ row_is c.args.n c.view-view.result.kind (held c.args.column.now) (offer_seen c.view-view.result)
     (stats_seen stats.result stats.new.table) _ _ _ c.view-view.ensures.same refl refl stats.ensures.stands
-    c.in-ok-counts.ensures (c.in-ok-of-values.ensures stats.new.table stats.ensures.holds))
+    c.in-ok-counts.ensures (c.in-ok-of_values.ensures stats.new.table stats.ensures.holds))
     c.format.ensures.ok

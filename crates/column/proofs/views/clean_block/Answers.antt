@@ -11,4 +11,4 @@ returns-in-0 c =
 
 pub returns-in-18446744073709551615 : goal.returns-in-18446744073709551615
 returns-in-18446744073709551615 c =
-    c.copy-from-slice.ensures.after ∙ sym (cells-ones c.args.word c.args.cells.now c.in-18446744073709551615.is c.requires.few)
+    c.copy_from_slice.ensures.after ∙ sym (cells-ones c.args.word c.args.cells.now c.in-18446744073709551615.is c.requires.few)

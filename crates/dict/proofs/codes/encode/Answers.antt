@@ -3,13 +3,13 @@ use Rattle.column.specs.Columns.{offer_seen, offered}
 use Rattle.column.proofs.RowLaws.{length-offered}
 use Rattle.dict.proofs.CodeLaws.{code_cell, code-cells, put-more, put_all, value-at, blank-at, known_at}
 use Rattle.dict.proofs.codes.encode.Goals as goal
-use Rattle.dict.proofs.codes.encode.Goals.{then-is-present, else-is-present}
+use Rattle.dict.proofs.codes.encode.Goals.{then-is_present, else-is_present}
 
-pub place-of-requires : goal.place-of-requires
-place-of-requires c =
+pub place_of-requires : goal.place_of-requires
+place_of-requires c =
     record {
       ascends = c.requires.ascends;
-      known = known_at c.args.distinct.now (offer_seen c.args.array) c.loop-i.i c.loop-i-test.true c.if-is-present.ensures c.requires.known;
+      known = known_at c.args.distinct.now (offer_seen c.args.array) c.loop-i.i c.loop-i-test.true c.if-is_present.ensures c.requires.known;
     }
 
 pub loop-i-preserved : goal.loop-i-preserved
@@ -19,12 +19,12 @@ loop-i-preserved c =
     let i = c.loop-i.i in
     let t = c.loop-i-test.true in
     let n = length-offered o in
-    let y : c.if-is-present.out ≡ code_cell ds (get_or (offered o) i None) =
-    elim c.if-is-present.branch [
-      | then-is-present w ↦ w.out-is ∙ w.place-of.ensures ∙ ap (code_cell ds) (sym (value-at o i t (sym w.if-is-present.true ∙ c.is-present.ensures)))
-      | else-is-present w ↦ w.out-is ∙ ap (code_cell ds) (sym (blank-at o i t (sym w.if-is-present.false ∙ c.is-present.ensures)))
+    let y : c.if-is_present.out ≡ code_cell ds (get_or (offered o) i None) =
+    elim c.if-is_present.branch [
+      | then-is_present w ↦ w.out-is ∙ w.place_of.ensures ∙ ap (code_cell ds) (sym (value-at o i t (sym w.if-is_present.true ∙ c.is_present.ensures)))
+      | else-is_present w ↦ w.out-is ∙ ap (code_cell ds) (sym (blank-at o i t (sym w.if-is_present.false ∙ c.is_present.ensures)))
     ] in
-    put-more (code_cell ds) (offered o) None c.loop-i.out _ _ i c.if-is-present.out (omega arith) (omega arith) y refl c.loop-i.invariant
+    put-more (code_cell ds) (offered o) None c.loop-i.out _ _ i c.if-is_present.out (omega arith) (omega arith) y refl c.loop-i.invariant
 
 pub returns : goal.returns
 returns c =

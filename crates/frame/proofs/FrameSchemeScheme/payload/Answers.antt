@@ -7,24 +7,24 @@ use Rattle.frame.specs.Frame.{over_base}
 use Rattle.frame.proofs.Distances.{payload-is, distances-below}
 use Rattle.frame.proofs.FrameSchemeScheme.payload.Goals as goal
 
-pub write-payload-requires : goal.write-payload-requires
-write-payload-requires c =
+pub write_payload-requires : goal.write_payload-requires
+write_payload-requires c =
     let s = seen c.args.array in
     let r = c.of-reference.ensures in
-    let ds = c.write-distances.new.out in
-    let n = ap length c.write-distances.ensures ∙ length-map s.rows (over_base s.kind c.of-reference.result.least) ∙ view-rows c.args.array in
+    let ds = c.write_distances.new.out in
+    let n = ap length c.write_distances.ensures ∙ length-map s.rows (over_base s.kind c.of-reference.result.least) ∙ view-rows c.args.array in
     let f = c.requires.sound.few in
-    let e = payload-is s c.of-reference.result.least c.of-reference.result.bits ds r.least r.bits c.write-distances.ensures in
+    let e = payload-is s c.of-reference.result.least c.of-reference.result.bits ds r.least r.bits c.write_distances.ensures in
     record {
       clean = c.requires.clean;
       wide = r.few;
       few = omega (arith, n, f);
-      narrow = distances-below s c.of-reference.result.least c.of-reference.result.bits ds r.least r.bits c.write-distances.ensures c.requires.clean.clean;
+      narrow = distances-below s c.of-reference.result.least c.of-reference.result.bits ds r.least r.bits c.write_distances.ensures c.requires.clean.clean;
       room = subst (λ xs. length xs ≤ length c.args.out.now) (sym e) c.requires.room;
     }
 
 pub returns : goal.returns
 returns c =
     let r = c.of-reference.ensures in
-    c.write-payload.ensures
-    ∙ ap (λ xs. written xs c.args.out.now) (payload-is (seen c.args.array) c.of-reference.result.least c.of-reference.result.bits _ r.least r.bits c.write-distances.ensures)
+    c.write_payload.ensures
+    ∙ ap (λ xs. written xs c.args.out.now) (payload-is (seen c.args.array) c.of-reference.result.least c.of-reference.result.bits _ r.least r.bits c.write_distances.ensures)

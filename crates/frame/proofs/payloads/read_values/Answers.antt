@@ -20,14 +20,14 @@ returns c =
     let old = c.args.words.now in
     let eb : c.min-bits.result ≡ b = c.min-bits.ensures in
     let ebody : c.after-body.result.now ≡ body =
-    c.after-body.ensures ∙ ap (λ m. drop m s.payload.now) (c.packed-len.ensures ∙ ap (λ w. packed_len w 1) c.width.ensures) in
+    c.after-body.ensures ∙ ap (λ m. drop m s.payload.now) (c.packed_len.ensures ∙ ap (λ w. packed_len w 1) c.width.ensures) in
     let emask : c.after.result.now ≡ drop (packed_len b n) body =
-    c.after.ensures ∙ (λ i. drop ((c.packed-len-len.ensures ∙ ap (λ x. packed_len x n) eb) i) (ebody i)) in
-    let ews : c.read-mask.new.words ≡ written (words_of n bits) old =
-    c.read-mask.ensures ∙ ap (λ bs. written (words_of n (unmask s.flag n bs)) old) emask in
-    let ecs : c.add-to-each.new.cells ≡ added_to c.args.least (unpacked b n (take (packed_len b n) body)) =
-    c.add-to-each.ensures ∙ ap (added_to c.args.least) (c.unpack.ensures.value ∙ (λ i. unpacked (eb i) (c.requires.cells i) (ebody i)) ∙ sym (unpacked-take b n body)) in
-    let l : length c.add-to-each.new.cells ≡ n = c.add-to-each.auto.cells ∙ c.unpack.auto.cells ∙ c.requires.cells in
+    c.after.ensures ∙ (λ i. drop ((c.packed_len-len.ensures ∙ ap (λ x. packed_len x n) eb) i) (ebody i)) in
+    let ews : c.read_mask.new.words ≡ written (words_of n bits) old =
+    c.read_mask.ensures ∙ ap (λ bs. written (words_of n (unmask s.flag n bs)) old) emask in
+    let ecs : c.add_to_each.new.cells ≡ added_to c.args.least (unpacked b n (take (packed_len b n) body)) =
+    c.add_to_each.ensures ∙ ap (added_to c.args.least) (c.unpack.ensures.value ∙ (λ i. unpacked (eb i) (c.requires.cells i) (ebody i)) ∙ sym (unpacked-take b n body)) in
+    let l : length c.add_to_each.new.cells ≡ n = c.add_to_each.auto.cells ∙ c.unpack.auto.cells ∙ c.requires.cells in
     ap (λ rs. record { kind = k; rows = rs })
-    (held-from n c.add-to-each.new.cells c.read-mask.new.words bits old l (length-unmask s.flag n _) (below-unmask s.flag n _) c.requires.words ews
+    (held-from n c.add_to_each.new.cells c.read_mask.new.words bits old l (length-unmask s.flag n _) (below-unmask s.flag n _) c.requires.words ews
     ∙ ap (rows_of bits) ecs)

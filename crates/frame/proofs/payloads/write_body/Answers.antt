@@ -21,27 +21,27 @@ pack-requires c =
     let n = ends c.args.bits c.args.distances.now c.args.out.now (seen c.args.array).rows c.requires.room in
     record { wide = c.requires.wide; room = omega (arith, n) }
 
-pub slice-bounds-write-mask-count : goal.slice-bounds-write-mask-count
-slice-bounds-write-mask-count c =
+pub slice_bounds-write_mask-count : goal.slice_bounds-write_mask-count
+slice_bounds-write_mask-count c =
     let n = ends c.args.bits c.args.distances.now c.args.out.now (seen c.args.array).rows c.requires.room in
-    let l = c.packed-len-len.ensures in
+    let l = c.packed_len-len.ensures in
     let k = c.pack.auto.out in
     omega (arith, n)
 
-pub slice-bounds-write-mask-start : goal.slice-bounds-write-mask-start
-slice-bounds-write-mask-start c =
+pub slice_bounds-write_mask-start : goal.slice_bounds-write_mask-start
+slice_bounds-write_mask-start c =
     let n = ends c.args.bits c.args.distances.now c.args.out.now (seen c.args.array).rows c.requires.room in
-    let l = c.packed-len-len.ensures in
+    let l = c.packed_len-len.ensures in
     let k = c.pack.auto.out in
-    let h : c.packed-len-len.result ≤ length c.pack.new.out = omega (arith, n) in
+    let h : c.packed_len-len.result ≤ length c.pack.new.out = omega (arith, n) in
     h
 
-pub write-mask-requires : goal.write-mask-requires
-write-mask-requires c =
+pub write_mask-requires : goal.write_mask-requires
+write_mask-requires c =
     let n = ends c.args.bits c.args.distances.now c.args.out.now (seen c.args.array).rows c.requires.room in
-    let l = c.packed-len-len.ensures in
+    let l = c.packed_len-len.ensures in
     let k = c.pack.auto.out in
-    let r = ap length (take_rest c.pack.new.out c.packed-len-len.result) ∙ length-drop c.packed-len-len.result c.pack.new.out in
+    let r = ap length (take_rest c.pack.new.out c.packed_len-len.result) ∙ length-drop c.packed_len-len.result c.pack.new.out in
     record { clean = c.requires.clean; room = omega (arith, n, r) }
 
 pub returns : goal.returns
@@ -50,5 +50,5 @@ returns c =
     let ds = c.args.distances.now in
     let m : c.pack.new.out ≡ written (packed b ds) c.args.out.now =
     c.pack.ensures ∙ ap (λ xs. written (packed b xs) c.args.out.now) (low_bits-below b ds c.requires.narrow) in
-    then-written (packed b ds) (mask (seen c.args.array).rows) c.args.out.now c.pack.new.out c.write-mask.new.out c.packed-len-len.result
-    (c.packed-len-len.ensures ∙ sym (length-packed b ds)) m c.write-mask.ensures
+    then-written (packed b ds) (mask (seen c.args.array).rows) c.args.out.now c.pack.new.out c.write_mask.new.out c.packed_len-len.result
+    (c.packed_len-len.ensures ∙ sym (length-packed b ds)) m c.write_mask.ensures

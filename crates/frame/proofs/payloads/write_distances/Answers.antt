@@ -14,7 +14,7 @@ loop-i-preserved c =
     let row : i < length (seen v).rows = omega arith in
     let place : i < length c.loop-i.out = omega arith in
     written-more (over_base (number_of v.kind) c.args.least) (seen v).rows i c.loop-i.out c.distance.result _ row place
-    (distance_is v c.args.least i c.is-present.result c.distance.result c.requires.clean c.requires.least c.loop-i-test.true c.is-present.ensures c.distance.ensures)
+    (distance_is v c.args.least i c.is_present.result c.distance.result c.requires.clean c.requires.least c.loop-i-test.true c.is_present.ensures c.distance.ensures)
     c.loop-i.invariant
 
 pub returns : goal.returns

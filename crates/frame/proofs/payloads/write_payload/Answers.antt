@@ -15,5 +15,5 @@ returns c =
     let body = body_by c.args.reference.bits c.args.distances.now (seen c.args.array).rows in
     let m : c.pack.new.out ≡ written (at_width k least) c.args.out.now =
     c.pack.ensures ∙ ap (λ w. written (packed w (low_bits w least)) c.args.out.now) c.width-width.ensures in
-    then-written (at_width k least) body c.args.out.now c.pack.new.out c.write-body.new.out c.packed-len-start.result
-    (c.packed-len-start.ensures ∙ ap (λ w. packed_len w 1) c.width-width.ensures ∙ sym (length-at_width k least)) m c.write-body.ensures
+    then-written (at_width k least) body c.args.out.now c.pack.new.out c.write_body.new.out c.packed_len-start.result
+    (c.packed_len-start.ensures ∙ ap (λ w. packed_len w 1) c.width-width.ensures ∙ sym (length-at_width k least)) m c.write_body.ensures

@@ -4,7 +4,7 @@ use Rattle.lines.proofs.fields.read_digits.Goals as goal
 
 pub returns-in-err-n : goal.returns-in-err-n
 returns-in-err-n c =
-    c.from-residual.ensures ∙ digits-stop c.args.text.now c.loop-b.b-index c.loop-b.n _ c.loop-b-test.true c.loop-b.invariant.1 c.in-err-n.ensures
+    c.from_residual.ensures ∙ digits-stop c.args.text.now c.loop-b.b-index c.loop-b.n _ c.loop-b-test.true c.loop-b.invariant.1 c.in-err-n.ensures
 
 pub loop-b-preserved : goal.loop-b-preserved
 loop-b-preserved c =

@@ -4,8 +4,8 @@ use Rattle.lines.proofs.fields.read_field.Goals as goal
 
 pub returns-in-err-cell : goal.returns-in-err-cell
 returns-in-err-cell c =
-    c.from-residual.ensures ∙ field-minus c.args.kind c.args.text.now _ c.if-is-empty.ensures (omega arith) c.in-err-cell.ensures
+    c.from_residual.ensures ∙ field-minus c.args.kind c.args.text.now _ c.if-is_empty.ensures (omega arith) c.in-err-cell.ensures
 
 pub returns-in-ok-cell : goal.returns-in-ok-cell
 returns-in-ok-cell c =
-    field-minus c.args.kind c.args.text.now _ c.if-is-empty.ensures (omega arith) c.in-ok-cell.ensures
+    field-minus c.args.kind c.args.text.now _ c.if-is_empty.ensures (omega arith) c.in-ok-cell.ensures

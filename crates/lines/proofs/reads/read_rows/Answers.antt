@@ -3,15 +3,15 @@ use Rattle.std.proofs.lemmas.Result.{err_from_is_err_and}
 use Rattle.lines.proofs.Turns.{turn_more, turn-stop, turn-few, turn-some, turn-rows}
 use Rattle.lines.proofs.reads.read_rows.Goals as goal
 
-pub returns-in-default : goal.returns-in-default
-returns-in-default c =
-    turn-stop (number_of c.args.kind) c.args.text.now c.loop-rest.rest.now c.loop-rest.rows c.before-comma-end.result c.loop-rest.invariant
-    c.loop-rest-test.ensures c.before-comma-end.ensures.value c.in-default.ensures
+pub returns-in_default : goal.returns-in_default
+returns-in_default c =
+    turn-stop (number_of c.args.kind) c.args.text.now c.loop-rest.rest.now c.loop-rest.rows c.before_comma-end.result c.loop-rest.invariant
+    c.loop-rest-test.ensures c.before_comma-end.ensures.value c.in_default.ensures
 
 pub loop-rest-preserved : goal.loop-rest-preserved
 loop-rest-preserved c =
-    turn_more (number_of c.args.kind) c.args.text.now c.loop-rest.rest.now c.loop-rest.rows c.before-comma-end.result c.loop-rest.invariant
-    c.loop-rest-test.ensures c.before-comma-end.ensures.value
+    turn_more (number_of c.args.kind) c.args.text.now c.loop-rest.rest.now c.loop-rest.rows c.before_comma-end.result c.loop-rest.invariant
+    c.loop-rest-test.ensures c.before_comma-end.ensures.value
     c.in-Some.row c.push.new.self c.in-Some.ensures c.in-ok-push.ensures
 
 pub finish-requires : goal.finish-requires
@@ -21,11 +21,11 @@ finish-requires c =
 
 pub returns-in-err-push : goal.returns-in-err-push
 returns-in-err-push c =
-    let p = err_from_is_err_and c.from-residual.result c.from-residual.ensures.1 in
+    let p = err_from_is_err_and c.from_residual.result c.from_residual.ensures.1 in
     rw (p.1, p.2) (turn-some (number_of c.args.kind) c.args.text.now c.loop-rest.rest.now c.loop-rest.rows c.loop-rest.invariant c.loop-rest-test.ensures)
 
 pub returns-in-err-finish : goal.returns-in-err-finish
 returns-in-err-finish c =
-    let p = err_from_is_err_and c.from-residual-in-err-finish.result c.from-residual-in-err-finish.ensures.1 in
+    let p = err_from_is_err_and c.from_residual-in-err-finish.result c.from_residual-in-err-finish.ensures.1 in
     rw (p.1, p.2)
     (turn-rows (number_of c.args.kind) c.args.text.now c.loop-rest.rest.now c.loop-rest.rows c.loop-rest.invariant c.in-err-finish.ensures.refused)

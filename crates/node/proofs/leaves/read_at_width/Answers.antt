@@ -10,24 +10,24 @@ use Rattle.node.proofs.leaves.read_at_width.Goals as goal
 unpacked-at : (b w n : ℕ) (bs cs : List ℕ) → b ≡ w → cs ≡ unpacked b n bs → cs ≡ unpacked w n (take (packed_len w n) bs)
 unpacked-at b w n bs cs e c = c ∙ ap (λ x. unpacked x n bs) e ∙ sym (unpacked-take w n bs)
 
-pub extend-signs-requires : goal.extend-signs-requires
-extend-signs-requires c =
+pub extend_signs-requires : goal.extend_signs-requires
+extend_signs-requires c =
     let w = width (number_of c.args.kind) in
     let n = length c.args.cells.now in
     let bs = c.args.bytes.now in
     record {
-      signed = sym c.if-is-signed.ensures;
+      signed = sym c.if-is_signed.ensures;
       narrow = subst (Below (2 ^ w)) (sym (c.unpack.ensures.value ∙ ap (λ x. unpacked x n bs) c.width.ensures)) (below-unpacked w n bs);
     }
 
-pub returns-then-is-signed : goal.returns-then-is-signed
-returns-then-is-signed c =
+pub returns-then-is_signed : goal.returns-then-is_signed
+returns-then-is_signed c =
     let k = number_of c.args.kind in
-    c.extend-signs.ensures
+    c.extend_signs.ensures
     ∙ ap (widen k) (unpacked-at c.width.result (width k) (length c.args.cells.now) c.args.bytes.now c.unpack.new.cells c.width.ensures c.unpack.ensures.value)
 
-pub returns-else-is-signed : goal.returns-else-is-signed
-returns-else-is-signed c =
+pub returns-else-is_signed : goal.returns-else-is_signed
+returns-else-is_signed c =
     let k = number_of c.args.kind in
     unpacked-at c.width.result (width k) (length c.args.cells.now) c.args.bytes.now c.unpack.new.cells c.width.ensures c.unpack.ensures.value
-    ∙ sym (stay_all k _ (sym c.if-is-signed.ensures))
+    ∙ sym (stay_all k _ (sym c.if-is_signed.ensures))

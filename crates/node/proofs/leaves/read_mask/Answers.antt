@@ -31,7 +31,7 @@ loaded c =
 pub returns-then-rest-ne0 : goal.returns-then-rest-ne0
 returns-then-rest-ne0 c =
     part-cleared c.args.flag c.args.rows c.args.bytes.now c.args.words.now c.if-flag-eq0.words (loaded (goal.at.returns-then-rest-ne0 c).Joined-flag-eq0) c.if-rest-ne0.true
-    c.low-bits.result c.low-bits.ensures
+    c.low_bits.result c.low_bits.ensures
 
 pub returns-else-rest-ne0 : goal.returns-else-rest-ne0
 returns-else-rest-ne0 c =

@@ -13,10 +13,10 @@ returns c =
     let f = c.args.flag in
     let n = length c.args.cells.now in
     let rest = drop (packed_len (width k) n) c.args.payload.now in
-    let cs = c.read-at-width.new.cells in
-    let l : length cs ≡ n = c.read-at-width.auto.cells in
-    let r : c.from.result.now ≡ rest = c.from.ensures ∙ ap (λ m. drop m c.args.payload.now) (c.packed-len-len.ensures ∙ (λ i. packed_len (c.width.ensures i) (l i))) in
-    let w : c.read-mask.new.words ≡ written (words_of n (unmask f n rest)) c.args.words.now =
-    c.read-mask.ensures ∙ (λ i. written (words_of (l i) (unmask f (l i) (r i))) c.args.words.now) in
-    held-from n cs c.read-mask.new.words (unmask f n rest) c.args.words.now l (length-unmask f n rest) (below-unmask f n rest) c.requires.words w
-    ∙ ap (rows_of (unmask f n rest)) c.read-at-width.ensures
+    let cs = c.read_at_width.new.cells in
+    let l : length cs ≡ n = c.read_at_width.auto.cells in
+    let r : c.from.result.now ≡ rest = c.from.ensures ∙ ap (λ m. drop m c.args.payload.now) (c.packed_len-len.ensures ∙ (λ i. packed_len (c.width.ensures i) (l i))) in
+    let w : c.read_mask.new.words ≡ written (words_of n (unmask f n rest)) c.args.words.now =
+    c.read_mask.ensures ∙ (λ i. written (words_of (l i) (unmask f (l i) (r i))) c.args.words.now) in
+    held-from n cs c.read_mask.new.words (unmask f n rest) c.args.words.now l (length-unmask f n rest) (below-unmask f n rest) c.requires.words w
+    ∙ ap (rows_of (unmask f n rest)) c.read_at_width.ensures

@@ -5,6 +5,6 @@ use Rattle.node.proofs.payloads.constant_len.Goals as goal
 
 pub returns : goal.returns
 returns c = record {
-  value = c.masked-len.ensures;
-  meant = λ col k n q h. c.masked-len.ensures ∙ constant-len-by (number_of c.args.kind) c.args.rows c.args.has-blank col k n q h;
+  value = c.masked_len.ensures;
+  meant = λ col k n q h. c.masked_len.ensures ∙ constant-len-by (number_of c.args.kind) c.args.rows c.args.has_blank col k n q h;
 }

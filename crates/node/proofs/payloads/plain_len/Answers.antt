@@ -5,6 +5,6 @@ use Rattle.node.proofs.payloads.plain_len.Goals as goal
 
 pub returns : goal.returns
 returns c = record {
-  value = c.masked-len.ensures;
-  meant = λ col k n q. c.masked-len.ensures ∙ plain-len-by (number_of c.args.kind) c.args.rows c.args.has-blank col k n q;
+  value = c.masked_len.ensures;
+  meant = λ col k n q. c.masked_len.ensures ∙ plain-len-by (number_of c.args.kind) c.args.rows c.args.has_blank col k n q;
 }

@@ -17,30 +17,30 @@ ends v cs out len l r =
     let n : len ≡ length (at_width (number_of v.kind) cs) = l ∙ sym (length-at_width (number_of v.kind) cs) in
     (n, omega arith)
 
-pub write-at-width-len-requires : goal.write-at-width-len-requires
-write-at-width-len-requires c =
+pub write_at_width-len-requires : goal.write_at_width-len-requires
+write_at_width-len-requires c =
     let n = ends c.args.view c.args.cells.now c.args.out.now _ refl c.requires.room in
     record { few = c.requires.few; room = omega (arith, n.1) }
 
-pub slice-bounds-write-mask-count : goal.slice-bounds-write-mask-count
-slice-bounds-write-mask-count c =
-    let n = ends c.args.view c.args.cells.now c.args.out.now _ c.write-at-width-len.ensures.len c.requires.room in
-    let k = c.write-at-width-len.auto.out in
+pub slice_bounds-write_mask-count : goal.slice_bounds-write_mask-count
+slice_bounds-write_mask-count c =
+    let n = ends c.args.view c.args.cells.now c.args.out.now _ c.write_at_width-len.ensures.len c.requires.room in
+    let k = c.write_at_width-len.auto.out in
     omega (arith, n.1)
 
-pub slice-bounds-write-mask-start : goal.slice-bounds-write-mask-start
-slice-bounds-write-mask-start c =
-    let n = ends c.args.view c.args.cells.now c.args.out.now _ c.write-at-width-len.ensures.len c.requires.room in
-    let k = c.write-at-width-len.auto.out in
-    let h : c.write-at-width-len.result ≤ length c.write-at-width-len.new.out = omega (arith, n.1) in
+pub slice_bounds-write_mask-start : goal.slice_bounds-write_mask-start
+slice_bounds-write_mask-start c =
+    let n = ends c.args.view c.args.cells.now c.args.out.now _ c.write_at_width-len.ensures.len c.requires.room in
+    let k = c.write_at_width-len.auto.out in
+    let h : c.write_at_width-len.result ≤ length c.write_at_width-len.new.out = omega (arith, n.1) in
     h
 
-pub write-mask-requires : goal.write-mask-requires
-write-mask-requires c =
-    let len = c.write-at-width-len.result in
-    let out = c.write-at-width-len.new.out in
-    let n = ends c.args.view c.args.cells.now c.args.out.now len c.write-at-width-len.ensures.len c.requires.room in
-    let k = c.write-at-width-len.auto.out in
+pub write_mask-requires : goal.write_mask-requires
+write_mask-requires c =
+    let len = c.write_at_width-len.result in
+    let out = c.write_at_width-len.new.out in
+    let n = ends c.args.view c.args.cells.now c.args.out.now len c.write_at_width-len.ensures.len c.requires.room in
+    let k = c.write_at_width-len.auto.out in
     let r = ap length (take_rest out len) ∙ length-drop len out in
     record { clean = c.requires.clean; room = omega (arith, n.1, r) }
 
@@ -48,5 +48,5 @@ pub returns : goal.returns
 returns c =
     let v = c.args.view in
     let cs = c.args.cells.now in
-    let n = ends v cs c.args.out.now _ c.write-at-width-len.ensures.len c.requires.room in
-    then-written (at_width (number_of v.kind) cs) (mask (seen v).rows) c.args.out.now c.write-at-width-len.new.out c.write-mask.new.out c.write-at-width-len.result n.0 c.write-at-width-len.ensures.bytes c.write-mask.ensures
+    let n = ends v cs c.args.out.now _ c.write_at_width-len.ensures.len c.requires.room in
+    then-written (at_width (number_of v.kind) cs) (mask (seen v).rows) c.args.out.now c.write_at_width-len.new.out c.write_mask.new.out c.write_at_width-len.result n.0 c.write_at_width-len.ensures.bytes c.write_mask.ensures

@@ -5,8 +5,8 @@ use Rattle.node.specs.Payloads.{mask, at_width}
 use Rattle.node.proofs.ViewLaws.{view-cells, view-sound}
 use Rattle.node.proofs.payloads.write_plain.Goals as goal
 
-pub write-masked-requires : goal.write-masked-requires
-write-masked-requires c =
+pub write_masked-requires : goal.write_masked-requires
+write_masked-requires c =
     let v = c.args.view in
     let e = view-cells v c.requires.clean in
     let s = view-sound v c.requires.clean in

@@ -5,5 +5,5 @@ use Rattle.node.proofs.weights.+weigh_weigh_children.Given as goal
 abbrev pub decreases-weigh : goal.decreases-weigh
 decreases-weigh l = 2 * length l.bytes.now
 
-abbrev pub decreases-weigh-children : goal.decreases-weigh-children
-decreases-weigh-children l = 2 * length l.bytes.now + 1
+abbrev pub decreases-weigh_children : goal.decreases-weigh_children
+decreases-weigh_children l = 2 * length l.bytes.now + 1

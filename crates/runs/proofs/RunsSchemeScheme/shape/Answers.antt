@@ -17,17 +17,17 @@ returns c =
     let n = c.gather-count.result in
     let out = c.gather-count.new.out in
     let fits = c.gather-count.ensures.fits in
-    let few = c.split-runs-runs.ensures.few in
+    let few = c.split_runs-runs.ensures.few in
     let front = c.gather-count.ensures.front in
     let found : take (n - 0) out ≡ vs = ap (λ z. take z out) (let s : n - 0 ≡ n = omega arith in s) ∙ front in
     let room : n ≤ length out = omega arith in
     let len : n ≡ length vs = sym (length-take-le n out room) ∙ ap length front in
     let held = ap length found in
-    let kept = c.split-runs-runs.auto in
-    let q = c.has-blank-has-blank.ensures in
-    shaped (seen view) c.mask-len.result _ c.split-runs-runs.result (number_of c.narrowest.result) _ _ _ _ _ _
-    (c.mask-len.ensures.meant rs (length-offered (offer_seen view) ∙ sym c.rows.ensures) (sym q))
+    let kept = c.split_runs-runs.auto in
+    let q = c.has_blank-has_blank.ensures in
+    shaped (seen view) c.mask_len.result _ c.split_runs-runs.result (number_of c.narrowest.result) _ _ _ _ _ _
+    (c.mask_len.ensures.meant rs (length-offered (offer_seen view) ∙ sym c.rows.ensures) (sym q))
     (flag_is _ ∙ ap flag_by q)
-    (record { cells = c.split-runs-runs.ensures.firsts ∙ ap heads found; room = omega arith; words = c.read-mask.ensures })
-    (record { cells = c.split-runs-runs.ensures.ends ∙ ap ends found; room = omega arith; words = c.read-mask-2.ensures })
+    (record { cells = c.split_runs-runs.ensures.firsts ∙ ap heads found; room = omega arith; words = c.read_mask.ensures })
+    (record { cells = c.split_runs-runs.ensures.ends ∙ ap ends found; room = omega arith; words = c.read_mask-2.ensures })
     (c.narrowest.ensures ∙ ap narrow len)

@@ -11,7 +11,7 @@ loop-i-preserved c =
     let r = c.min-runs.ensures in
     let n = length c.args.out.now in
     let m : c.min.result ≡ min (get_or c.args.ends.now c.loop-i.i 0 - c.loop-i.before) (n - c.loop-i.count) =
-    c.min.ensures ∙ (λ t. min (c.run-len.ensures t) (c.loop-i.auto.out t - c.loop-i.count)) in
+    c.min.ensures ∙ (λ t. min (c.run_len.ensures t) (c.loop-i.auto.out t - c.loop-i.count)) in
     wrote-more c.loop-i.invariant (omega arith) (omega arith) c.loop-i.auto.out c.min.result (c.loop-i.count + c.min.result) c.fill.new.self m refl
     (c.fill.ensures.after (λ y e. search rules))
 

@@ -7,8 +7,8 @@ use Rattle.sample.proofs.StrataLaws.{length-strata, wide, ends}
 use Rattle.sample.proofs.Steps.{asked, draw-room, cells-more, words_more, cells-all, words-all, sample-large, after_more, view-rows, view-few, view-cells, words-room, word-is}
 use Rattle.sample.proofs.samples.draw_rows.Goals as goal
 
-pub overflow-sub-stop : goal.overflow-sub-stop
-overflow-sub-stop g c =
+pub overflow_sub-stop : goal.overflow_sub-stop
+overflow_sub-stop g c =
     let n = length c.args.view.cells.now in
     let k = c.args.count in
     let l : 64 * k ≤ n = omega (arith, c.requires.large) in
@@ -28,8 +28,8 @@ draw-from-requires g c =
     let e = ap (λ p. p.1) c.stratum-start.ensures.bounds in
     record { ordered = omega (arith, w, d, e); small = omega (arith, r, e, few) }
 
-pub put-cells-requires : goal.put-cells-requires
-put-cells-requires g c =
+pub put_cells-requires : goal.put_cells-requires
+put_cells-requires g c =
     let d = g.D.Draws.source in
     let n = length c.args.view.cells.now in
     let k = c.args.count in
@@ -43,8 +43,8 @@ put-cells-requires g c =
       room = omega (arith, room, c.loop-i-test.true, c.loop-i.auto.cells);
     }
 
-pub word-from-requires : goal.word-from-requires
-word-from-requires g c =
+pub word_from-requires : goal.word_from-requires
+word_from-requires g c =
     let d = g.D.Draws.source in
     let n = length c.args.view.cells.now in
     let k = c.args.count in
@@ -72,10 +72,10 @@ loop-i-preserved g c =
     let cells-room : 64 * i + 64 ≤ length c.loop-i.cells = omega (arith, c.requires.cells-room, c.loop-i-test.true, c.loop-i.auto.cells) in (
       after_more g.D.Draws.after ps i c.stratum-start.result _ c.stratum-start.ensures.bounds (c.draw-from.ensures.moves seed bs c.loop-i.invariant.0),
       cells-more d ps i rs c.args.view.cells.now c.loop-i.cells _ _ c.draw-from.result (omega (arith, length-strata n k, c.loop-i-test.true))
-          (view-cells v c.requires.clean) f within-rows cells-room c.put-cells.ensures c.loop-i.invariant.1,
-      words_more d ps i rs c.loop-i.words _ c.draw-from.result c.word-from.result (omega (arith, length-strata n k, c.loop-i-test.true)) f within-rows
+          (view-cells v c.requires.clean) f within-rows cells-room c.put_cells.ensures c.loop-i.invariant.1,
+      words_more d ps i rs c.loop-i.words _ c.draw-from.result c.word_from.result (omega (arith, length-strata n k, c.loop-i-test.true)) f within-rows
           (omega (arith, c.requires.words-room, c.loop-i-test.true, c.loop-i.auto.words))
-          (word-is v c.requires.clean c.draw-from.result _ c.word-from.ensures) c.loop-i.invariant.2,
+          (word-is v c.requires.clean c.draw-from.result _ c.word_from.ensures) c.loop-i.invariant.2,
     )
 
 pub returns : goal.returns

@@ -8,15 +8,15 @@ pub returns-then-bit-eq0 : goal.returns-then-bit-eq0
 returns-then-bit-eq0 c =
     let ws = c.args.words.now in
     let f = c.args.from in
-    let b : Below (2 ^ 64) ws = below-get_d (2 ^ 64) ws (λ i. omega (arith, c.type-inv.words i)) in
-    word-whole ws f b (omega arith) (omega (arith, c.type-inv.words (f / 64))) (omega arith)
+    let b : Below (2 ^ 64) ws = below-get_d (2 ^ 64) ws (λ i. omega (arith, c.type_inv.words i)) in
+    word-whole ws f b (omega arith) (omega (arith, c.type_inv.words (f / 64))) (omega arith)
 
-pub overflow-add-result-2 : goal.overflow-add-result-2
-overflow-add-result-2 c =
+pub overflow_add-result-2 : goal.overflow_add-result-2
+overflow_add-result-2 c =
     let ws = c.args.words.now in
     let f = c.args.from in
-    let b : Below (2 ^ 64) ws = below-get_d (2 ^ 64) ws (λ i. omega (arith, c.type-inv.words i)) in
-    let e = word_two ws f b (omega arith) (omega (arith, c.type-inv.words (f / 64))) in
+    let b : Below (2 ^ 64) ws = below-get_d (2 ^ 64) ws (λ i. omega (arith, c.type_inv.words i)) in
+    let e = word_two ws f b (omega arith) (omega (arith, c.type_inv.words (f / 64))) in
     let m = mod-lt (joined (2 ^ 64) ws / 2 ^ f) (pow_pos 64) in
     omega (arith, e, m)
 
@@ -24,5 +24,5 @@ pub returns : goal.returns
 returns c =
     let ws = c.args.words.now in
     let f = c.args.from in
-    let b : Below (2 ^ 64) ws = below-get_d (2 ^ 64) ws (λ i. omega (arith, c.type-inv.words i)) in
-    word_two ws f b (omega arith) (omega (arith, c.type-inv.words (f / 64)))
+    let b : Below (2 ^ 64) ws = below-get_d (2 ^ 64) ws (λ i. omega (arith, c.type_inv.words i)) in
+    word_two ws f b (omega arith) (omega (arith, c.type_inv.words (f / 64)))

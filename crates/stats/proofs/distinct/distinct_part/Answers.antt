@@ -5,15 +5,15 @@ use Rattle.stats.specs.Stats.{distinct_of, tally}
 use Rattle.stats.proofs.Together.{part-is}
 use Rattle.stats.proofs.distinct.distinct_part.Goals as goal
 
-pub returns-else-has-part : goal.returns-else-has-part
-returns-else-has-part g c =
+pub returns-else-has_part : goal.returns-else-has_part
+returns-else-has_part g c =
     let t = c.args.table.now in
     let n = c.args.n in
     let k = number_of c.args.kind in
     let fit : n ≤ length t = omega arith in
     let whole = Some (distinct_of (tally k (take n t))) in
     record {
-      stands = λ rs e. sym (part-is c.args.want c.has-part.result k c.args.rows n rs (take n t) e (length-take-le n t fit) c.has-part.ensures ∙ ap (λ z. cond z whole None) c.if-has-part.false);
+      stands = λ rs e. sym (part-is c.args.want c.has_part.result k c.args.rows n rs (take n t) e (length-take-le n t fit) c.has_part.ensures ∙ ap (λ z. cond z whole None) c.if-has_part.false);
       few = omega arith;
       most = omega arith;
       beyond = refl;

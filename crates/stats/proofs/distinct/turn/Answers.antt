@@ -6,7 +6,7 @@ use Rattle.stats.proofs.distinct.turn.Goals as goal
 pub loop-i-preserved : goal.loop-i-preserved
 loop-i-preserved g c =
     let lt : c.loop-i.i < length c.loop-i.cells = omega arith in
-    turn_more (key_by g.T.Whole.minus) c.loop-i.cells _ c.loop-i.i _ _ lt c.key-of.ensures refl c.loop-i.invariant
+    turn_more (key_by g.T.Whole.minus) c.loop-i.cells _ c.loop-i.i _ _ lt c.key_of.ensures refl c.loop-i.invariant
 
 pub returns : goal.returns
 returns g c =

@@ -9,8 +9,8 @@ use Rattle.stats.proofs.Together.{stats-is}
 use Rattle.stats.proofs.integer.typed_int_stats.Goals as goal
 use Rattle.stats.proofs.integer.typed_int_stats.Goals.{then-count-eq0, else-count-eq0}
 
-pub runs-from-runs-requires : goal.runs-from-runs-requires
-runs-from-runs-requires g c =
+pub runs_from-runs-requires : goal.runs_from-runs-requires
+runs_from-runs-requires g c =
     let n = c.gather-count.result in
     let out = c.gather-count.new.out in
     let vs = shown c.args.view.words.now c.args.view.cells.now in
@@ -44,14 +44,14 @@ returns g c =
     let front = c.gather-count.ensures.front in
     let near : n ≤ 2 * rows = omega (arith, fits) in
     let far : 2 * rows ≤ length out = omega arith in
-    let block = c.runs-from-runs.new.work in
+    let block = c.runs_from-runs.new.work in
     let below = take-put_mid_below (2 * rows) (2 * rows + 64 - 2 * rows) out block n near far in
-    let last = c.distinct-part-distinct.new.table in
-    let part = c.distinct-part-distinct.ensures in
+    let last = c.distinct_part-distinct.new.table in
+    let part = c.distinct_part-distinct.ensures in
     record {
-      stands = stats-is g.T.Whole.cell c.args.want k cells ws (take n out) last n c.runs-from-runs.result c.average-run-length-average-run-length.result c.least-of-min.result c.greatest-of-max.result c.distinct-part-distinct.result
+      stands = stats-is g.T.Whole.cell c.args.want k cells ws (take n out) last n c.runs_from-runs.result c.average_run_length-average_run_length.result c.least_of-min.result c.greatest_of-max.result c.distinct_part-distinct.result
           front (length-take-le n out fit)
-          (c.least-of-min.ensures ∙ ap (λ z. least_of k (take z out)) m) (c.greatest-of-max.ensures ∙ ap (λ z. greatest_of k (take z out)) m) (c.runs-from-runs.ensures ∙ ap runs (sym front)) c.average-run-length-average-run-length.ensures
+          (c.least_of-min.ensures ∙ ap (λ z. least_of k (take z out)) m) (c.greatest_of-max.ensures ∙ ap (λ z. greatest_of k (take z out)) m) (c.runs_from-runs.ensures ∙ ap runs (sym front)) c.average_run_length-average_run_length.ensures
           (λ rs e. part.stands rs e ∙ ap (distinct_part c.args.want k rs) below);
       few = part.few;
       most = part.most;

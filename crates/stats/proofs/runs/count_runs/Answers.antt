@@ -11,7 +11,7 @@ loop-b-preserved g c =
     let s = 64 * c.loop-b.b in
     let e = c.min-end.result in
     let ends = block-end n s e (omega arith) c.min-end.ensures in
-    counted-more c.loop-b.invariant c.loop-b-test.true s e _ _ refl ends.0 ends.1 ends.2 ends.3 c.inner-loop.ensures.runs c.inner-loop.ensures.prev
+    counted-more c.loop-b.invariant c.loop-b-test.true s e _ _ refl ends.0 ends.1 ends.2 ends.3 c.inner_loop.ensures.runs c.inner_loop.ensures.prev
 
 pub returns : goal.returns
 returns g c = let e = counted-all c.loop-b.invariant c.loop-b-test.false in record { runs = e.0; prev = e.1 }

@@ -11,5 +11,5 @@ loop-i-preserved g c =
 pub returns : goal.returns
 returns g c =
     let le : length c.loop-i.filled ≤ c.loop-i.i = omega arith in
-    fill-all c.args.valid c.to-cell-last.result c.loop-i.last c.loop-i.i c.loop-i.filled c.args.filled.now le c.loop-i.invariant
-    ∙ ap (λ p. filled_from c.args.valid 0 p c.args.filled.now) c.to-cell-last.ensures
+    fill-all c.args.valid c.to_cell-last.result c.loop-i.last c.loop-i.i c.loop-i.filled c.args.filled.now le c.loop-i.invariant
+    ∙ ap (λ p. filled_from c.args.valid 0 p c.args.filled.now) c.to_cell-last.ensures

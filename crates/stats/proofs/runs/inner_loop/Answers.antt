@@ -22,6 +22,6 @@ returns-in-18446744073709551615 g c =
     let p = g.T.Whole.cell s.prev in
     let e = ap (λ w. kept_from w 0 xs) c.in-18446744073709551615.is ∙ kept-all 0 xs (omega (arith, c.requires.few)) in
     record {
-      runs = c.inner-loop-nonnull.ensures.runs ∙ sym (ap (λ ys. s.runs + changes p ys) e);
-      prev = c.inner-loop-nonnull.ensures.prev ∙ sym (ap (last_or p) e);
+      runs = c.inner_loop_nonnull.ensures.runs ∙ sym (ap (λ ys. s.runs + changes p ys) e);
+      prev = c.inner_loop_nonnull.ensures.prev ∙ sym (ap (last_or p) e);
     }

@@ -16,8 +16,8 @@ loop-v-preserved g c =
     let p = cell c.args.state.now.prev in
     let xs = c.args.values.now in
     let i = c.loop-v.v-index in (
-      counted p c.args.state.now.runs xs i c.loop-v.state.runs c.push.new.self.runs (cell c.loop-v.state.prev) (cell c.of-cell.result) c.loop-v-test.true c.loop-v.invariant.0 c.loop-v.invariant.1 c.of-cell.ensures c.push.ensures.runs,
-      c.push.ensures.prev ∙ c.of-cell.ensures ∙ sym (last_or-more p xs i c.loop-v-test.true),
+      counted p c.args.state.now.runs xs i c.loop-v.state.runs c.push.new.self.runs (cell c.loop-v.state.prev) (cell c.of_cell.result) c.loop-v-test.true c.loop-v.invariant.0 c.loop-v.invariant.1 c.of_cell.ensures c.push.ensures.runs,
+      c.push.ensures.prev ∙ c.of_cell.ensures ∙ sym (last_or-more p xs i c.loop-v-test.true),
     )
 
 pub returns : goal.returns

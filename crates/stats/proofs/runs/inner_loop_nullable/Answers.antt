@@ -7,8 +7,8 @@ use Rattle.stats.proofs.runs.inner_loop_nullable.Goals as goal
 pub returns : goal.returns
 returns g c =
     let p = g.T.Whole.cell c.args.state.now.prev in
-    let e = c.forward-fill.ensures ∙ ap (filled_from c.args.valid 0 p) c.copy-from-slice.ensures.after in
+    let e = c.forward_fill.ensures ∙ ap (filled_from c.args.valid 0 p) c.copy_from_slice.ensures.after in
     record {
-      runs = c.inner-loop-nonnull.ensures.runs ∙ ap (λ n. c.args.state.now.runs + n) (ap (changes p) e ∙ changes-filled c.args.valid 0 p c.args.values.now);
-      prev = c.inner-loop-nonnull.ensures.prev ∙ ap (last_or p) e ∙ last-filled c.args.valid 0 p c.args.values.now;
+      runs = c.inner_loop_nonnull.ensures.runs ∙ ap (λ n. c.args.state.now.runs + n) (ap (changes p) e ∙ changes-filled c.args.valid 0 p c.args.values.now);
+      prev = c.inner_loop_nonnull.ensures.prev ∙ ap (last_or p) e ∙ last-filled c.args.valid 0 p c.args.values.now;
     }

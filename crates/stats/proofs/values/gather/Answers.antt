@@ -15,7 +15,7 @@ loop-b-preserved c =
     let s = 64 * c.loop-b.b in
     let e = c.min-end.result in
     let ends = block-end n s e (omega arith) c.min-end.ensures in
-    got-more c.loop-b.invariant c.loop-b-test.true s e _ _ _ refl ends.0 ends.1 ends.2 ends.3 c.gather-block-at.ensures.front (omega arith) (omega arith) c.gather-block-at.ensures.beyond
+    got-more c.loop-b.invariant c.loop-b-test.true s e _ _ _ refl ends.0 ends.1 ends.2 ends.3 c.gather_block-at.ensures.front (omega arith) (omega arith) c.gather_block-at.ensures.beyond
 
 pub returns : goal.returns
 returns c =

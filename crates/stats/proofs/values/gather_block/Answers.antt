@@ -2,7 +2,7 @@ use Rattle.std.proofs.Common.{◌+◌, ◌<◌, ◌≤◌, length, drop, sym, ap
 use Rattle.std.proofs.lemmas.List.{drop-set-lt}
 use Rattle.stats.proofs.Gathering.{gather-value, gather-blank, gather-end}
 use Rattle.stats.proofs.values.gather_block.Goals as goal
-use Rattle.stats.proofs.values.gather_block.Goals.{then-is-set, else-is-set}
+use Rattle.stats.proofs.values.gather_block.Goals.{then-is_set, else-is_set}
 
 pub loop-i-preserved : goal.loop-i-preserved
 loop-i-preserved c =
@@ -14,14 +14,14 @@ loop-i-preserved c =
     let m = c.args.at + length xs in
     let lt : i < length xs = omega arith in
     let fit : n < length out = omega arith in
-    elim c.if-is-set.branch [
-      | then-is-set u ↦ (
-        gather-value w n i xs out _ _ _ lt fit (sym c.is-set.ensures ∙ u.if-is-set.true) u.out-is u.n-is c.loop-i.invariant.0,
+    elim c.if-is_set.branch [
+      | then-is_set u ↦ (
+        gather-value w n i xs out _ _ _ lt fit (sym c.is_set.ensures ∙ u.if-is_set.true) u.out-is u.n-is c.loop-i.invariant.0,
         omega (arith, u.n-is),
         ap (drop m) u.out-is ∙ drop-set-lt m out n _ (omega arith) ∙ c.loop-i.invariant.2,
       )
-      | else-is-set u ↦ (
-        gather-blank w n i xs out _ _ _ lt (sym c.is-set.ensures ∙ u.if-is-set.false) u.out-is u.n-is c.loop-i.invariant.0,
+      | else-is_set u ↦ (
+        gather-blank w n i xs out _ _ _ lt (sym c.is_set.ensures ∙ u.if-is_set.false) u.out-is u.n-is c.loop-i.invariant.0,
         omega (arith, u.n-is),
         ap (drop m) u.out-is ∙ c.loop-i.invariant.2,
       )

@@ -18,7 +18,7 @@ loop-i-preserved-then-not-below g c = λ k order e.
     let i = c.loop-i.i in
     let m = cell c.loop-i.m in
     let x = get_or xs (i - 1) 0 in
-    greatest-more k s xs i m _ c.below.result order (omega arith) (omega arith) (c.loop-i.invariant k order e) (c.below.ensures ∙ ap (λ z. ltb (key_by s z) (key_by s m)) c.of-cell-x.ensures) (c.of-cell-x.ensures ∙ ap (λ z. cond z m x) (sym c.if-not-below.true))
+    greatest-more k s xs i m _ c.below.result order (omega arith) (omega arith) (c.loop-i.invariant k order e) (c.below.ensures ∙ ap (λ z. ltb (key_by s z) (key_by s m)) c.of_cell-x.ensures) (c.of_cell-x.ensures ∙ ap (λ z. cond z m x) (sym c.if-not-below.true))
 
 pub loop-i-preserved : goal.loop-i-preserved
 loop-i-preserved g c = λ k order e.
@@ -28,9 +28,9 @@ loop-i-preserved g c = λ k order e.
     let i = c.loop-i.i in
     let m = cell c.loop-i.m in
     let x = get_or xs (i - 1) 0 in
-    greatest-more k s xs i m _ c.below.result order (omega arith) (omega arith) (c.loop-i.invariant k order e) (c.below.ensures ∙ ap (λ z. ltb (key_by s z) (key_by s m)) c.of-cell-x.ensures) (ap (λ z. cond z m x) (sym c.if-not-below.false))
+    greatest-more k s xs i m _ c.below.result order (omega arith) (omega arith) (c.loop-i.invariant k order e) (c.below.ensures ∙ ap (λ z. ltb (key_by s z) (key_by s m)) c.of_cell-x.ensures) (ap (λ z. cond z m x) (sym c.if-not-below.false))
 
 pub returns : goal.returns
 returns g c =
     let k = number_of c.args.kind in
-    c.loop-i.invariant k c.requires.order (c.of-cell-m.ensures ∙ c.least.ensures) ∙ ap (greatest_of k) (none_left c.loop-i.i c.args.found.now (omega arith))
+    c.loop-i.invariant k c.requires.order (c.of_cell-m.ensures ∙ c.least.ensures) ∙ ap (greatest_of k) (none_left c.loop-i.i c.args.found.now (omega arith))

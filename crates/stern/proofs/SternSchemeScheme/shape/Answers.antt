@@ -7,6 +7,6 @@ use Rattle.stern.proofs.SternSchemeScheme.shape.Goals as goal
 pub returns : goal.returns
 returns c =
     let v = c.args.array in
-    outline-is (seen v) c.plain-len-payload.result c.width.result c.has-blank-has-blank.result c.in-default.ensures
-    (c.plain-len-payload.ensures.meant (seen v) refl (length-offered (offer_seen v) ∙ sym c.rows.ensures) (sym c.has-blank-has-blank.ensures))
-    c.width.ensures c.has-blank-has-blank.ensures
+    outline-is (seen v) c.plain_len-payload.result c.width.result c.has_blank-has_blank.result c.in_default.ensures
+    (c.plain_len-payload.ensures.meant (seen v) refl (length-offered (offer_seen v) ∙ sym c.rows.ensures) (sym c.has_blank-has_blank.ensures))
+    c.width.ensures c.has_blank-has_blank.ensures

@@ -11,8 +11,8 @@ pub loop-b-preserved : goal.loop-b-preserved
 loop-b-preserved c =
     let o = offer_seen c.args.self.now in
     let a : Words o.words = All-from_get_or (λ w. w < 2 ^ 64) o.words 0 (λ i h. search rules) in
-    cleans_more o.words o.cells c.loop-b.out c.loop-b.b (64 * c.loop-b.b) c.block-end-end.result c.clean-block.new.out _ _
-    a c.loop-b-test.true refl (omega arith) c.block-end-end.ensures (omega arith) c.clean-block.ensures refl c.loop-b.invariant
+    cleans_more o.words o.cells c.loop-b.out c.loop-b.b (64 * c.loop-b.b) c.block_end-end.result c.clean_block.new.out _ _
+    a c.loop-b-test.true refl (omega arith) c.block_end-end.ensures (omega arith) c.clean_block.ensures refl c.loop-b.invariant
 
 pub returns : goal.returns
 returns c =

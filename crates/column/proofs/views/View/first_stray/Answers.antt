@@ -10,16 +10,16 @@ returns-in-Some c =
     let o = offer_seen c.args.self.now in
     let b = c.loop-b.b in
     let a : Words o.words = All-from_get_or (λ w. w < 2 ^ 64) o.words 0 (λ i h. search rules) in
-    strays-stop o.kind o.words o.cells b (64 * b) c.block-end-end.result c.in-Some.row _
-    a c.loop-b-test.true refl (omega arith) c.block-end-end.ensures c.loop-b.invariant (sym c.in-Some.ensures)
+    strays-stop o.kind o.words o.cells b (64 * b) c.block_end-end.result c.in-Some.row _
+    a c.loop-b-test.true refl (omega arith) c.block_end-end.ensures c.loop-b.invariant (sym c.in-Some.ensures)
 
 pub loop-b-preserved : goal.loop-b-preserved
 loop-b-preserved c =
     let o = offer_seen c.args.self.now in
     let b = c.loop-b.b in
     let a : Words o.words = All-from_get_or (λ w. w < 2 ^ 64) o.words 0 (λ i h. search rules) in
-    strays-more o.kind o.words o.cells b (64 * b) c.block-end-end.result _
-    a c.loop-b-test.true refl (omega arith) c.block-end-end.ensures c.loop-b.invariant (sym c.in-default.ensures)
+    strays-more o.kind o.words o.cells b (64 * b) c.block_end-end.result _
+    a c.loop-b-test.true refl (omega arith) c.block_end-end.ensures c.loop-b.invariant (sym c.in_default.ensures)
 
 pub returns : goal.returns
 returns c =

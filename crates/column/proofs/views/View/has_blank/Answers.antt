@@ -27,7 +27,7 @@ returns-then-rest-ne0 c =
     let a : Words o.words = All-from_get_or (λ w. w < 2 ^ 64) o.words 0 (λ i h. search rules) in
     let b : c.loop-b.b ≡ n / 64 = omega arith in
     let w = get_or o.words c.loop-b.b 0 in
-    let mask = c.low-ones-mask.ensures in
+    let mask = c.low_ones-mask.ensures in
     (λ i. not (eqb (bit_and (get_or o.words (sym b i) 0) (mask i)) (mask i)))
     ∙ ap (λ z. not (eqb z (2 ^ (n % 64) - 1))) (and_mask w (n % 64))
     ∙ blanks-last o.words o.cells c.loop-b.b (n % 64) _ a (omega arith) (omega arith) (mod_below n 64 (omega arith)) c.loop-b.invariant

@@ -15,24 +15,24 @@ known k q e = let n = kind-some k q e in let f = kind-few q in omega (arith, n, 
 stray-at : (k n : ℕ) (rs : List Row) (s : Option ℕ) → k ≡ n → s ≡ stray_from n 0 rs → stray_from k 0 rs ≡ s
 stray-at k n rs s e f = ap (λ z. stray_from z 0 rs) e ∙ sym f
 
-pub returns-in-default : goal.returns-in-default
-returns-in-default c =
+pub returns-in_default : goal.returns-in_default
+returns-in_default c =
     let o = offer c.args.kind c.args.cells.now c.args.words.now in
-    record { inspected = refused-kind o (kind-none o.kind (sym c.in-default.ensures)); hidden = hidden o }
+    record { inspected = refused-kind o (kind-none o.kind (sym c.in_default.ensures)); hidden = hidden o }
 
-pub returns-in-Some-shape-refused : goal.returns-in-Some-shape-refused
-returns-in-Some-shape-refused c =
+pub returns-in-Some-shape_refused : goal.returns-in-Some-shape_refused
+returns-in-Some-shape_refused c =
     let o = offer c.args.kind c.args.cells.now c.args.words.now in
     let k = known o.kind c.in-Some.known (sym c.in-Some.ensures) in
-    record { inspected = refused-shape o k c.in-Some-shape-refused.refusal (sym c.in-Some-shape-refused.ensures); hidden = hidden o }
+    record { inspected = refused-shape o k c.in-Some-shape_refused.refusal (sym c.in-Some-shape_refused.ensures); hidden = hidden o }
 
-pub returns-in-Some-first-stray : goal.returns-in-Some-first-stray
-returns-in-Some-first-stray c =
+pub returns-in-Some-first_stray : goal.returns-in-Some-first_stray
+returns-in-Some-first_stray c =
     let o = offer c.args.kind c.args.cells.now c.args.words.now in
     let k = known o.kind c.in-Some.known (sym c.in-Some.ensures) in
     let n = kind-some o.kind c.in-Some.known (sym c.in-Some.ensures) in
-    let s = stray-at o.kind (number_of c.in-Some.known) (offered o) (Some c.in-Some-first-stray.row) n c.in-Some-first-stray.ensures in
-    record { inspected = refused-stray o k (shape-right (length o.cells) o.words (sym c.in-default-shape-refused.ensures)) (Some c.in-Some-first-stray.row) s; hidden = hidden o }
+    let s = stray-at o.kind (number_of c.in-Some.known) (offered o) (Some c.in-Some-first_stray.row) n c.in-Some-first_stray.ensures in
+    record { inspected = refused-stray o k (shape-right (length o.cells) o.words (sym c.in_default-shape_refused.ensures)) (Some c.in-Some-first_stray.row) s; hidden = hidden o }
 
 pub returns-in-None : goal.returns-in-None
 returns-in-None c =
@@ -40,7 +40,7 @@ returns-in-None c =
     let k = known o.kind c.in-Some.known (sym c.in-Some.ensures) in
     let n = kind-some o.kind c.in-Some.known (sym c.in-Some.ensures) in
     let s = stray-at o.kind (number_of c.in-Some.known) (offered o) None n c.in-None.ensures in
-    let right = shape-right (length o.cells) o.words (sym c.in-default-shape-refused.ensures) in
+    let right = shape-right (length o.cells) o.words (sym c.in_default-shape_refused.ensures) in
     let free = refused-stray o k right None s in
     let same : offer_seen (record { kind = c.in-Some.known; cells = c.args.cells; words = c.args.words }) ≡ o = λ i. record { kind = sym n i; cells = o.cells; words = o.words } in
     record {

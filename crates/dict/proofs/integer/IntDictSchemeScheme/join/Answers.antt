@@ -22,5 +22,5 @@ returns c =
     let found : take (n - 0) out ≡ ds = ap (λ z. take z out) (let s : n - 0 ≡ n = omega arith in s) ∙ c.gather-count.ensures.front in
     let codes = s.child1.cells.now in
     ap (λ rs. record { kind = number_of s.kind; rows = rs })
-    (ap (λ ws. rows_of (word_bits (length c.decode.new.out) ws) c.decode.new.out) c.copy-from-slice.ensures.after
+    (ap (λ ws. rows_of (word_bits (length c.decode.new.out) ws) c.decode.new.out) c.copy_from_slice.ensures.after
     ∙ joined-codes s.rows ds codes s.child1.words.now c.decode.new.out (sym c.rows.ensures ∙ c.if-rows-stored.false) (c.decode.ensures ∙ ap (λ xs. decoded_cells xs codes) found))

@@ -12,9 +12,9 @@ use Rattle.dict.proofs.integer.IntDictSchemeScheme.shape.Goals as goal
 pub encode-requires : goal.encode-requires
 encode-requires c =
     let view = c.args.array in
-    let n = c.list-distinct-count.result in
-    let out = c.list-distinct-count.new.out in
-    let found : take (n - 0) out ≡ distinct_values (seen view) = ap (λ z. take z out) (let s : n - 0 ≡ n = omega arith in s) ∙ c.list-distinct-count.ensures.front in
+    let n = c.list_distinct-count.result in
+    let out = c.list_distinct-count.new.out in
+    let found : take (n - 0) out ≡ distinct_values (seen view) = ap (λ z. take z out) (let s : n - 0 ≡ n = omega arith in s) ∙ c.list_distinct-count.ensures.front in
     let rows = c.rows-rows.ensures in
     record {
       sound = c.requires.sound;
@@ -28,23 +28,23 @@ returns c =
     let view = c.args.array in
     let rs = (seen view).rows in
     let ds = distinct_values (seen view) in
-    let n = c.list-distinct-count.result in
-    let out = c.list-distinct-count.new.out in
-    let front = c.list-distinct-count.ensures.front in
-    let few = c.list-distinct-count.ensures.few in
-    let kept = c.list-distinct-count.auto in
+    let n = c.list_distinct-count.result in
+    let out = c.list_distinct-count.new.out in
+    let front = c.list_distinct-count.ensures.front in
+    let few = c.list_distinct-count.ensures.few in
+    let kept = c.list_distinct-count.auto in
     let found : take (n - 0) out ≡ ds = ap (λ z. take z out) (let s : n - 0 ≡ n = omega arith in s) ∙ front in
     let room : n ≤ length out = omega arith in
     let len : n ≡ length ds = sym (length-take-le n out room) ∙ ap length front in
     let rows = c.rows-rows.ensures in
     let codes : length c.encode.new.out ≡ c.rows-rows.result =
     c.encode.auto.out ∙ length-take-le (c.rows-rows.result - 0) c.args.cells1.now (omega arith) ∙ omega arith in
-    let words = c.copy-from-slice.ensures.after in
-    shaped (seen view) n c.rows-rows.result (number_of c.codes-kind.result) out c.read-mask.new.words _ _ _
+    let words = c.copy_from_slice.ensures.after in
+    shaped (seen view) n c.rows-rows.result (number_of c.codes_kind.result) out c.read_mask.new.words _ _ _
     front
     room
-    c.read-mask.ensures
+    c.read_mask.ensures
     (rows ∙ sym (length-offered (offer_seen view)))
     (take_at c.encode.new.out _ c.rows-rows.result codes ∙ c.encode.ensures ∙ ap (λ xs. cells (map (code_row xs) rs)) found)
-    (take_at c.copy-from-slice.new.self _ (words_for c.rows-rows.result) (ap length words ∙ c.requires.sound.words ∙ ap words_for (sym rows)) ∙ words ∙ ap (λ o. o.words) c.requires.clean.stored)
-    (c.codes-kind.ensures ∙ ap (λ x. narrow (x - 1)) len)
+    (take_at c.copy_from_slice.new.self _ (words_for c.rows-rows.result) (ap length words ∙ c.requires.sound.words ∙ ap words_for (sym rows)) ∙ words ∙ ap (λ o. o.words) c.requires.clean.stored)
+    (c.codes_kind.ensures ∙ ap (λ x. narrow (x - 1)) len)

@@ -9,4 +9,4 @@ pub returns-in-FiniteCompression : goal.returns-in-FiniteCompression
 unfolding valid
 returns-in-FiniteCompression c =
     let x = c.in-FiniteCompression.x in
-    c.is-valid-ratio.ensures ∙ ap (λ o. (float_is_finite x && not (is_subnormal binary64 x)) && lt o x) one-bits ∙ sym (ap score_valid c.in-FiniteCompression.is)
+    c.is_valid_ratio.ensures ∙ ap (λ o. (float_is_finite x && not (is_subnormal binary64 x)) && lt o x) one-bits ∙ sym (ap score_valid c.in-FiniteCompression.is)

@@ -4,11 +4,11 @@ use Rattle.stats.proofs.Standing.{right_of}
 use Rattle.stats.proofs.Hiding.{empty_of, blank_of, hidden-of}
 use Rattle.stats.proofs.integer.IntegerStats.generate_opts.Goals as goal
 
-pub returns-then-is-signed : goal.returns-then-is-signed
-returns-then-is-signed c =
+pub returns-then-is_signed : goal.returns-then-is_signed
+returns-then-is_signed c =
     let want = c.args.opts.count_distinct_values in
     let view = c.args.view in
-    let made = c.typed-int-stats-g.ensures in
+    let made = c.typed_int_stats-g.ensures in
     record {
       stands = made.stands;
       kind = refl;
@@ -23,11 +23,11 @@ returns-then-is-signed c =
       hidden = hidden-of want (offer_seen view) _ made.stands;
     }
 
-pub returns-else-is-signed : goal.returns-else-is-signed
-returns-else-is-signed c =
+pub returns-else-is_signed : goal.returns-else-is_signed
+returns-else-is_signed c =
     let want = c.args.opts.count_distinct_values in
     let view = c.args.view in
-    let made = c.typed-int-stats-g-else-is-signed.ensures in
+    let made = c.typed_int_stats-g-else-is_signed.ensures in
     record {
       stands = made.stands;
       kind = refl;

@@ -7,7 +7,7 @@ pub returns-in-Signed : goal.returns-in-Signed
 returns-in-Signed c =
     let n = c.args.self.now.value_count in
     let e = c.in-Signed.is in
-    let info = c.most-frequent-value-and-count-in-Signed.ensures in
+    let info = c.most_frequent_value_and_count-in-Signed.ensures in
     record {
       stands = λ t. info.stands n t ∙ sym (ap (λ z. top_in (distinct_seen z n t)) e);
       most = info.most ∙ sym (ap most_erased e);
