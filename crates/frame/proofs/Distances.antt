@@ -55,16 +55,16 @@ distance_is v m i p d h e l ep ed =
 -- one more row
 pub written-more : (f : Row → ℕ) (rs : List Row) (i : ℕ) (out : List ℕ) (y : ℕ) (goal : List ℕ) → i < length rs → i < length out → y ≡ f (get_or rs i None)
     → take i out ++ map f (drop i rs) ≡ goal → take (i + 1) (set out i y) ++ map f (drop (i + 1) rs) ≡ goal
-written-more f rs i out y goal h l e (λ x. x.now) =
+written-more f rs i out y goal h l e now =
     ap (λ xs. xs ++ map f (drop (i + 1) rs)) (take_more_set out i y l)
     ∙ append_assoc (take i out) (y ∷ []) (map f (drop (i + 1) rs))
     ∙ ap (λ x. take i out ++ (x ∷ map f (drop (i + 1) rs))) e
     ∙ ap (λ xs. take i out ++ map f xs) (sym (drop_more rs i None h))
-    ∙ (λ x. x.now)
+    ∙ now
 
 pub written_all : (f : Row → ℕ) (rs : List Row) (i : ℕ) (out goal : List ℕ) → length rs ≤ i → length out ≤ i → take i out ++ map f (drop i rs) ≡ goal → out ≡ goal
-written_all f rs i out goal h l (λ x. x.now) =
-    sym (append-nil out) ∙ ap (λ xs. xs ++ []) (sym (take_all i out l)) ∙ ap (λ xs. take i out ++ map f xs) (sym (drop_all i rs h)) ∙ (λ x. x.now)
+written_all f rs i out goal h l now =
+    sym (append-nil out) ∙ ap (λ xs. xs ++ []) (sym (take_all i out l)) ∙ ap (λ xs. take i out ++ map f xs) (sym (drop_all i rs h)) ∙ now
 
 -- ---- the payload by what was measured
 

@@ -46,7 +46,7 @@ pub cells-more : (d : Source) (ps : List (ℕ × ℕ)) (i : ℕ) (rs : List Row)
     → f ≡ d seed (bounds_of (get_or ps i (0, 0))) (asked ps i) → f + 64 ≤ length rs → 64 * i + 64 ≤ length out
     → out2 ≡ written_at (64 * i) (take 64 (drop f vc)) out → written_at (64 * i) (cells (rest d ps i rs)) out ≡ goal
     → written_at (64 * (i + 1)) (cells (rest d ps (i + 1) rs)) out2 ≡ goal
-cells-more d ps i rs vc out out2 goal f h v e r room o (λ x. x.now) =
+cells-more d ps i rs vc out out2 goal f h v e r room o now =
     let blk = take 64 (drop f rs) in
     let after = rest d ps (i + 1) rs in
     let whole : cells (rest d ps i rs) ≡ cells blk ++ cells after =
@@ -59,13 +59,13 @@ cells-more d ps i rs vc out out2 goal f h v e r room o (λ x. x.now) =
     ∙ ap (λ z. written_at (64 * i + length (cells blk)) (cells after) z) (o ∙ ap (λ z. written_at (64 * i) z out) part)
     ∙ sym (written_at-++ (64 * i) (cells blk) (cells after) out le)
     ∙ ap (λ z. written_at (64 * i) z out) (sym whole)
-    ∙ (λ x. x.now)
+    ∙ now
 
 pub words_more : (d : Source) (ps : List (ℕ × ℕ)) (i : ℕ) (rs : List Row) (out goal : List ℕ) (f w : ℕ) → i < length ps
     → f ≡ d seed (bounds_of (get_or ps i (0, 0))) (asked ps i) → f + 64 ≤ length rs → i < length out
     → w ≡ joined 2 (bits (take 64 (drop f rs))) → written_at i (presence (rest d ps i rs)) out ≡ goal
     → written_at (i + 1) (presence (rest d ps (i + 1) rs)) (set out i w) ≡ goal
-words_more d ps i rs out goal f w h e r room o (λ x. x.now) =
+words_more d ps i rs out goal f w h e r room o now =
     let blk = take 64 (drop f rs) in
     let after = rest d ps (i + 1) rs in
     let whole : presence (rest d ps i rs) ≡ w ∷ presence after =
@@ -74,7 +74,7 @@ words_more d ps i rs out goal f w h e r room o (λ x. x.now) =
     ap (λ z. written_at (i + 1) (presence after) z) (sym (written_at-one i w out room))
     ∙ sym (written_at-++ i (w ∷ []) (presence after) out le)
     ∙ ap (λ z. written_at i z out) (sym whole)
-    ∙ (λ x. x.now)
+    ∙ now
 
 pub put_is : (at f : ℕ) (out cs part : List ℕ) → f + 64 ≤ length cs → part ≡ take (f + 64 - f) (drop f cs) → put_mid at (at + 64 - at) out part ≡ written_at at (take 64 (drop f cs)) out
 put_is at f out cs part h e =

@@ -23,7 +23,7 @@ fn turn<T: Whole>(cells: &mut [u64])
 fn sort_keys(keys: &mut [u64])
     ensures { keys.new ≡ ascending keys.old }
 {
-    keys.sort();
+    keys.sort_unstable();
 }
 
 // The runs of the first `n` words: each run's value put where they stood, each run's length in the next `n`.

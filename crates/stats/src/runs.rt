@@ -29,8 +29,8 @@ impl<T: Whole> LoopState<T> {
     // One more value.
     fn push(&mut self, value: T)
         requires fits { self.old.runs + 1 < 2 ^ 32 }
-        ensures runs { self.new.runs ≡ self.old.runs + (if nat_eq (cell self.old.prev) (cell value) then 0 else 1) }
-        ensures prev { cell self.new.prev ≡ cell value }
+        ensures runs { self.new.runs ≡ self.old.runs + (if nat_eq (T.cell self.old.prev) (T.cell value) then 0 else 1) }
+        ensures prev { T.cell self.new.prev ≡ T.cell value }
     {
         if !self.prev.same(value) {
             self.prev = value;
@@ -42,8 +42,8 @@ impl<T: Whole> LoopState<T> {
 // One more block without blanks.
 fn inner_loop_nonnull<T: Whole>(values: &[u64], state: &mut LoopState<T>)
     requires fits { state.old.runs + length values.now < 2 ^ 32 }
-    ensures runs { state.new.runs ≡ state.old.runs + changes (cell state.old.prev) values.now }
-    ensures prev { cell state.new.prev ≡ last_or (cell state.old.prev) values.now }
+    ensures runs { state.new.runs ≡ state.old.runs + changes (T.cell state.old.prev) values.now }
+    ensures prev { T.cell state.new.prev ≡ last_or (T.cell state.old.prev) values.now }
 {
     for v in values {
         state.push(T::of_cell(*v));
@@ -61,7 +61,7 @@ fn carried(valid: u64, i: usize, cell: u64, last: u64) -> u64
 // Each blank, whose bit in `valid` is 0, becomes the value before it, or `prev`.
 fn forward_fill<T: Whole>(filled: &mut [u64], valid: u64, prev: T)
     requires few { length filled.old ≤ 64 }
-    ensures { filled.new ≡ filled_from valid 0 (cell prev) filled.old }
+    ensures { filled.new ≡ filled_from valid 0 (T.cell prev) filled.old }
 {
     let mut last = prev.to_cell();
     for i in 0..filled.len() {
@@ -80,8 +80,8 @@ fn inner_loop_nullable<T: Whole>(
     requires few { length values.now ≤ 64 }
     requires room { length values.now ≤ length work.old }
     requires fits { state.old.runs + length values.now < 2 ^ 32 }
-    ensures runs { state.new.runs ≡ state.old.runs + changes (cell state.old.prev) (kept_from valid 0 values.now) }
-    ensures prev { cell state.new.prev ≡ last_or (cell state.old.prev) (kept_from valid 0 values.now) }
+    ensures runs { state.new.runs ≡ state.old.runs + changes (T.cell state.old.prev) (kept_from valid 0 values.now) }
+    ensures prev { T.cell state.new.prev ≡ last_or (T.cell state.old.prev) (kept_from valid 0 values.now) }
 {
     let filled = &mut work[0..values.len()];
     filled.copy_from_slice(values);
@@ -94,8 +94,8 @@ fn inner_loop<T: Whole>(values: &[u64], valid: u64, work: &mut [u64], state: &mu
     requires few { length values.now ≤ 64 }
     requires room { length values.now ≤ length work.old }
     requires fits { state.old.runs + length values.now < 2 ^ 32 }
-    ensures runs { state.new.runs ≡ state.old.runs + changes (cell state.old.prev) (kept_from valid 0 values.now) }
-    ensures prev { cell state.new.prev ≡ last_or (cell state.old.prev) (kept_from valid 0 values.now) }
+    ensures runs { state.new.runs ≡ state.old.runs + changes (T.cell state.old.prev) (kept_from valid 0 values.now) }
+    ensures prev { T.cell state.new.prev ≡ last_or (T.cell state.old.prev) (kept_from valid 0 values.now) }
 {
     match valid {
         0 => {}
@@ -110,8 +110,8 @@ fn count_runs<T: Whole>(cells: &[u64], words: &[u64], work: &mut [u64], state: &
     requires rows { length cells.now ≤ 131072 }
     requires room { 64 ≤ length work.old }
     requires start { state.old.runs ≤ 1 }
-    ensures runs { state.new.runs ≡ state.old.runs + changes (cell state.old.prev) (block_values words.now cells.now) }
-    ensures prev { cell state.new.prev ≡ last_or (cell state.old.prev) (block_values words.now cells.now) }
+    ensures runs { state.new.runs ≡ state.old.runs + changes (T.cell state.old.prev) (block_values words.now cells.now) }
+    ensures prev { T.cell state.new.prev ≡ last_or (T.cell state.old.prev) (block_values words.now cells.now) }
 {
     let n = cells.len();
     for b in 0..words.len() {

@@ -49,7 +49,7 @@ pub fn gather(cells: &[u64], words: &[u64], out: &mut [u64]) -> usize
 // The least value, or the kind's greatest.
 pub(crate) fn least_of<T: Whole>(kind: Kind, found: &[u64]) -> T
     requires order { signed (number_of kind) ≡ T.Whole.minus }
-    ensures { cell result ≡ least_of (number_of kind) found.now }
+    ensures { T.cell result ≡ least_of (number_of kind) found.now }
 {
     let mut m = T::of_cell(kind.greatest());
     for i in (0..found.len()).rev() {
@@ -64,7 +64,7 @@ pub(crate) fn least_of<T: Whole>(kind: Kind, found: &[u64]) -> T
 // The greatest value, or the kind's least.
 pub(crate) fn greatest_of<T: Whole>(kind: Kind, found: &[u64]) -> T
     requires order { signed (number_of kind) ≡ T.Whole.minus }
-    ensures { cell result ≡ greatest_of (number_of kind) found.now }
+    ensures { T.cell result ≡ greatest_of (number_of kind) found.now }
 {
     let mut m = T::of_cell(kind.least());
     for i in (0..found.len()).rev() {

@@ -33,4 +33,4 @@ module _ (i : ℕ) (xs : List ℕ) (goal : Option ℕ) (now : thirteen_in i (dro
       ∙ here h
 
   pub end : length xs ≤ i → None ≡ goal
-  end h = ap (thirteen_in i) (sym (drop_all i xs h)) ∙ (λ x. x.now)
+  end h = ap (thirteen_in i) (sym (drop_all i xs h)) ∙ now

@@ -9,9 +9,9 @@ pub payload-requires : goal.payload-requires
 payload-requires g c =
     let m = g.S.Scheme.meaning c.args.s.now in
     let v = c.args.array in
-    let s = c.in-ok-shape.shape in
+    let s = c.in_ok-shape.shape in
     let z = c.shape.new in
-    let l = laid m (seen v) s z.cells0 z.words0 z.cells1 z.words1 (g.met.S.Scheme.keeps c.args.s.now) c.requires.clean.clean c.requires.kind c.in-ok-shape.ensures in
+    let l = laid m (seen v) s z.cells0 z.words0 z.cells1 z.words1 (g.met.S.Scheme.keeps c.args.s.now) c.requires.clean.clean c.requires.kind c.in_ok-shape.ensures in
     let e = length-offered (offer_seen v) in
     record {
       sound = c.requires.sound;
@@ -25,9 +25,9 @@ pub overflow_add-w0 : goal.overflow_add-w0
 overflow_add-w0 g c =
     let m = g.S.Scheme.meaning c.args.s.now in
     let v = c.args.array in
-    let s = c.in-ok-shape.shape in
+    let s = c.in_ok-shape.shape in
     let z = c.shape.new in
-    let l = laid m (seen v) s z.cells0 z.words0 z.cells1 z.words1 (g.met.S.Scheme.keeps c.args.s.now) c.requires.clean.clean c.requires.kind c.in-ok-shape.ensures in
+    let l = laid m (seen v) s z.cells0 z.words0 z.cells1 z.words1 (g.met.S.Scheme.keeps c.args.s.now) c.requires.clean.clean c.requires.kind c.in_ok-shape.ensures in
     let e = length-offered (offer_seen v) in
     let h0 = short0 m (seen v) s z.cells0 z.words0 z.cells1 z.words1 l c.num_children-count.result c.child_rows-n0.result c.num_children-count.ensures c.child_rows-n0.ensures.there c.child_rows-n0.ensures.none in
     omega arith
@@ -36,9 +36,9 @@ pub slice_bounds-child0-end : goal.slice_bounds-child0-end
 slice_bounds-child0-end g c =
     let m = g.S.Scheme.meaning c.args.s.now in
     let v = c.args.array in
-    let s = c.in-ok-shape.shape in
+    let s = c.in_ok-shape.shape in
     let z = c.shape.new in
-    let l = laid m (seen v) s z.cells0 z.words0 z.cells1 z.words1 (g.met.S.Scheme.keeps c.args.s.now) c.requires.clean.clean c.requires.kind c.in-ok-shape.ensures in
+    let l = laid m (seen v) s z.cells0 z.words0 z.cells1 z.words1 (g.met.S.Scheme.keeps c.args.s.now) c.requires.clean.clean c.requires.kind c.in_ok-shape.ensures in
     let e = length-offered (offer_seen v) in
     let h0 = short0 m (seen v) s z.cells0 z.words0 z.cells1 z.words1 l c.num_children-count.result c.child_rows-n0.result c.num_children-count.ensures c.child_rows-n0.ensures.there c.child_rows-n0.ensures.none in
     omega arith
@@ -47,9 +47,9 @@ pub slice_bounds-child0-end-2 : goal.slice_bounds-child0-end-2
 slice_bounds-child0-end-2 g c =
     let m = g.S.Scheme.meaning c.args.s.now in
     let v = c.args.array in
-    let s = c.in-ok-shape.shape in
+    let s = c.in_ok-shape.shape in
     let z = c.shape.new in
-    let l = laid m (seen v) s z.cells0 z.words0 z.cells1 z.words1 (g.met.S.Scheme.keeps c.args.s.now) c.requires.clean.clean c.requires.kind c.in-ok-shape.ensures in
+    let l = laid m (seen v) s z.cells0 z.words0 z.cells1 z.words1 (g.met.S.Scheme.keeps c.args.s.now) c.requires.clean.clean c.requires.kind c.in_ok-shape.ensures in
     let e = length-offered (offer_seen v) in
     let h0 = short0 m (seen v) s z.cells0 z.words0 z.cells1 z.words1 l c.num_children-count.result c.child_rows-n0.result c.num_children-count.ensures c.child_rows-n0.ensures.there c.child_rows-n0.ensures.none in
     omega arith
@@ -58,9 +58,9 @@ pub overflow_add-w1 : goal.overflow_add-w1
 overflow_add-w1 g c =
     let m = g.S.Scheme.meaning c.args.s.now in
     let v = c.args.array in
-    let s = c.in-ok-shape.shape in
+    let s = c.in_ok-shape.shape in
     let z = c.shape.new in
-    let l = laid m (seen v) s z.cells0 z.words0 z.cells1 z.words1 (g.met.S.Scheme.keeps c.args.s.now) c.requires.clean.clean c.requires.kind c.in-ok-shape.ensures in
+    let l = laid m (seen v) s z.cells0 z.words0 z.cells1 z.words1 (g.met.S.Scheme.keeps c.args.s.now) c.requires.clean.clean c.requires.kind c.in_ok-shape.ensures in
     let e = length-offered (offer_seen v) in
     let h1 = short1 m (seen v) s z.cells0 z.words0 z.cells1 z.words1 l c.num_children-count.result c.child_rows-n1.result c.num_children-count.ensures c.child_rows-n1.ensures.there c.child_rows-n1.ensures.none in
     omega arith
@@ -69,9 +69,9 @@ pub slice_bounds-child1-end : goal.slice_bounds-child1-end
 slice_bounds-child1-end g c =
     let m = g.S.Scheme.meaning c.args.s.now in
     let v = c.args.array in
-    let s = c.in-ok-shape.shape in
+    let s = c.in_ok-shape.shape in
     let z = c.shape.new in
-    let l = laid m (seen v) s z.cells0 z.words0 z.cells1 z.words1 (g.met.S.Scheme.keeps c.args.s.now) c.requires.clean.clean c.requires.kind c.in-ok-shape.ensures in
+    let l = laid m (seen v) s z.cells0 z.words0 z.cells1 z.words1 (g.met.S.Scheme.keeps c.args.s.now) c.requires.clean.clean c.requires.kind c.in_ok-shape.ensures in
     let e = length-offered (offer_seen v) in
     let h1 = short1 m (seen v) s z.cells0 z.words0 z.cells1 z.words1 l c.num_children-count.result c.child_rows-n1.result c.num_children-count.ensures c.child_rows-n1.ensures.there c.child_rows-n1.ensures.none in
     omega arith
@@ -80,9 +80,9 @@ pub slice_bounds-child1-end-2 : goal.slice_bounds-child1-end-2
 slice_bounds-child1-end-2 g c =
     let m = g.S.Scheme.meaning c.args.s.now in
     let v = c.args.array in
-    let s = c.in-ok-shape.shape in
+    let s = c.in_ok-shape.shape in
     let z = c.shape.new in
-    let l = laid m (seen v) s z.cells0 z.words0 z.cells1 z.words1 (g.met.S.Scheme.keeps c.args.s.now) c.requires.clean.clean c.requires.kind c.in-ok-shape.ensures in
+    let l = laid m (seen v) s z.cells0 z.words0 z.cells1 z.words1 (g.met.S.Scheme.keeps c.args.s.now) c.requires.clean.clean c.requires.kind c.in_ok-shape.ensures in
     let e = length-offered (offer_seen v) in
     let h1 = short1 m (seen v) s z.cells0 z.words0 z.cells1 z.words1 l c.num_children-count.result c.child_rows-n1.result c.num_children-count.ensures c.child_rows-n1.ensures.there c.child_rows-n1.ensures.none in
     omega arith
@@ -91,9 +91,9 @@ pub slice_bounds-join_parts-end : goal.slice_bounds-join_parts-end
 slice_bounds-join_parts-end g c =
     let m = g.S.Scheme.meaning c.args.s.now in
     let v = c.args.array in
-    let s = c.in-ok-shape.shape in
+    let s = c.in_ok-shape.shape in
     let z = c.shape.new in
-    let l = laid m (seen v) s z.cells0 z.words0 z.cells1 z.words1 (g.met.S.Scheme.keeps c.args.s.now) c.requires.clean.clean c.requires.kind c.in-ok-shape.ensures in
+    let l = laid m (seen v) s z.cells0 z.words0 z.cells1 z.words1 (g.met.S.Scheme.keeps c.args.s.now) c.requires.clean.clean c.requires.kind c.in_ok-shape.ensures in
     let e = length-offered (offer_seen v) in
     payload-ends m (seen v) s z.cells0 z.words0 z.cells1 z.words1 l (length c.payload.new.out) (omega arith)
 
@@ -101,9 +101,9 @@ pub join_parts-requires : goal.join_parts-requires
 join_parts-requires g c =
     let m = g.S.Scheme.meaning c.args.s.now in
     let v = c.args.array in
-    let s = c.in-ok-shape.shape in
+    let s = c.in_ok-shape.shape in
     let z = c.shape.new in
-    let l = laid m (seen v) s z.cells0 z.words0 z.cells1 z.words1 (g.met.S.Scheme.keeps c.args.s.now) c.requires.clean.clean c.requires.kind c.in-ok-shape.ensures in
+    let l = laid m (seen v) s z.cells0 z.words0 z.cells1 z.words1 (g.met.S.Scheme.keeps c.args.s.now) c.requires.clean.clean c.requires.kind c.in_ok-shape.ensures in
     let e = length-offered (offer_seen v) in
     let h0 = short0 m (seen v) s z.cells0 z.words0 z.cells1 z.words1 l c.num_children-count.result c.child_rows-n0.result c.num_children-count.ensures c.child_rows-n0.ensures.there c.child_rows-n0.ensures.none in
     let h1 = short1 m (seen v) s z.cells0 z.words0 z.cells1 z.words1 l c.num_children-count.result c.child_rows-n1.result c.num_children-count.ensures c.child_rows-n1.ensures.there c.child_rows-n1.ensures.none in
@@ -123,9 +123,9 @@ pub returns : goal.returns
 returns g c =
     let m = g.S.Scheme.meaning c.args.s.now in
     let v = c.args.array in
-    let s = c.in-ok-shape.shape in
+    let s = c.in_ok-shape.shape in
     let z = c.shape.new in
-    let l = laid m (seen v) s z.cells0 z.words0 z.cells1 z.words1 (g.met.S.Scheme.keeps c.args.s.now) c.requires.clean.clean c.requires.kind c.in-ok-shape.ensures in
+    let l = laid m (seen v) s z.cells0 z.words0 z.cells1 z.words1 (g.met.S.Scheme.keeps c.args.s.now) c.requires.clean.clean c.requires.kind c.in_ok-shape.ensures in
     let e = length-offered (offer_seen v) in
     trip m (seen v) s z.cells0 z.words0 z.cells1 z.words1 l c.args.out.now c.num_children-count.result c.child_rows-n0.result c.child_rows-n1.result
     (length c.args.array.cells.now) _ _ (sym e) c.num_children-count.ensures c.child_rows-n0.ensures.there c.child_rows-n1.ensures.there

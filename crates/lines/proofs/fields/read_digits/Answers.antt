@@ -8,7 +8,7 @@ returns-in-err-n c =
 
 pub loop-b-preserved : goal.loop-b-preserved
 loop-b-preserved c =
-    digits-go c.args.text.now c.loop-b.b-index c.loop-b.n c.in-ok-n.n _ c.loop-b-test.true c.loop-b.invariant.1 c.in-ok-n.ensures
+    digits-go c.args.text.now c.loop-b.b-index c.loop-b.n c.in_ok-n.n _ c.loop-b-test.true c.loop-b.invariant.1 c.in_ok-n.ensures
 
 pub returns : goal.returns
 returns c = digits-end c.args.text.now c.loop-b.b-index c.loop-b.n _ c.loop-b-test.false c.loop-b.invariant.0 c.loop-b.invariant.1

@@ -6,6 +6,6 @@ pub returns-in-err-cell : goal.returns-in-err-cell
 returns-in-err-cell c =
     c.from_residual.ensures ∙ field-minus c.args.kind c.args.text.now _ c.if-is_empty.ensures (omega arith) c.in-err-cell.ensures
 
-pub returns-in-ok-cell : goal.returns-in-ok-cell
-returns-in-ok-cell c =
-    field-minus c.args.kind c.args.text.now _ c.if-is_empty.ensures (omega arith) c.in-ok-cell.ensures
+pub returns-in_ok-cell : goal.returns-in_ok-cell
+returns-in_ok-cell c =
+    field-minus c.args.kind c.args.text.now _ c.if-is_empty.ensures (omega arith) c.in_ok-cell.ensures

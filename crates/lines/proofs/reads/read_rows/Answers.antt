@@ -12,7 +12,7 @@ pub loop-rest-preserved : goal.loop-rest-preserved
 loop-rest-preserved c =
     turn_more (number_of c.args.kind) c.args.text.now c.loop-rest.rest.now c.loop-rest.rows c.before_comma-end.result c.loop-rest.invariant
     c.loop-rest-test.ensures c.before_comma-end.ensures.value
-    c.in-Some.row c.push.new.self c.in-Some.ensures c.in-ok-push.ensures
+    c.in-Some.row c.push.new.self c.in-Some.ensures c.in_ok-push.ensures
 
 pub finish-requires : goal.finish-requires
 finish-requires c =

@@ -40,8 +40,8 @@ weigh-returns-then-levels-eq0 t c =
     ] in
     record { value = v; within = within l bs _ v; back = λ n rest f h e. v ∙ ap (weight_read l) e ∙ weigh-flat l n rest f h }
 
-pub weigh_weigh_children-requires : goal.weigh_weigh_children-requires
-weigh_weigh_children-requires t c =
+pub weigh-weigh_children-requires : goal.weigh-weigh_children-requires
+weigh-weigh_children-requires t c =
     let bs = c.args.bytes.now in
     let h = c.in-Some.header in
     let e = sym c.read.ensures.value ∙ c.in-Some.is in

@@ -37,7 +37,7 @@ put_cells-requires g c =
     let l : 64 * k ≤ n = omega (arith, c.requires.large) in
     let f : c.draw-from.result ≡ d seed (bounds_of (stratum_at n k c.loop-i.i)) bs =
     c.draw-from.ensures.answers seed bs c.loop-i.invariant.0 ∙ ap (λ p. d seed (bounds_of p) bs) c.stratum-start.ensures.bounds in
-    let room : 64 * k ≤ length c.args.cells.now = c.requires.cells-room in
+    let room : 64 * k ≤ length c.args.cells.now = c.requires.cells_room in
     record {
       within = draw-room d g.met.D.Draws.within n k c.loop-i.i bs _ c.loop-i-test.true l f;
       room = omega (arith, room, c.loop-i-test.true, c.loop-i.auto.cells);
@@ -69,12 +69,12 @@ loop-i-preserved g c =
     c.draw-from.ensures.answers seed bs c.loop-i.invariant.0 ∙ ap (λ p. d seed (bounds_of p) bs) c.stratum-start.ensures.bounds in
     let within = draw-room d g.met.D.Draws.within n k i bs _ c.loop-i-test.true l f in
     let within-rows : c.draw-from.result + 64 ≤ length rs = omega (arith, within, view-rows v) in
-    let cells-room : 64 * i + 64 ≤ length c.loop-i.cells = omega (arith, c.requires.cells-room, c.loop-i-test.true, c.loop-i.auto.cells) in (
+    let cells-room : 64 * i + 64 ≤ length c.loop-i.cells = omega (arith, c.requires.cells_room, c.loop-i-test.true, c.loop-i.auto.cells) in (
       after_more g.D.Draws.after ps i c.stratum-start.result _ c.stratum-start.ensures.bounds (c.draw-from.ensures.moves seed bs c.loop-i.invariant.0),
       cells-more d ps i rs c.args.view.cells.now c.loop-i.cells _ _ c.draw-from.result (omega (arith, length-strata n k, c.loop-i-test.true))
           (view-cells v c.requires.clean) f within-rows cells-room c.put_cells.ensures c.loop-i.invariant.1,
       words_more d ps i rs c.loop-i.words _ c.draw-from.result c.word_from.result (omega (arith, length-strata n k, c.loop-i-test.true)) f within-rows
-          (omega (arith, c.requires.words-room, c.loop-i-test.true, c.loop-i.auto.words))
+          (omega (arith, c.requires.words_room, c.loop-i-test.true, c.loop-i.auto.words))
           (word-is v c.requires.clean c.draw-from.result _ c.word_from.ensures) c.loop-i.invariant.2,
     )
 

@@ -7,5 +7,5 @@ use Rattle.node.proofs.heads.Header.read.Goals as goal
 pub returns : goal.returns
 returns c =
     let bs = c.args.bytes.now in
-    let v : ◌≡◌ {A = Option Header} (Some c.at_front.result) (header_read bs) = ap Some c.at_front.ensures ∙ sym (long-header bs c.if-bytes-lt-HEAD-SIZE.false) in
+    let v : ◌≡◌ {A = Option Header} (Some c.at_front.result) (header_read bs) = ap Some c.at_front.ensures ∙ sym (long-header bs c.if-bytes-lt-HEAD_SIZE.false) in
     record { value = v; back = λ n rest f e. v ∙ ap header_read e ∙ header-back n rest f }

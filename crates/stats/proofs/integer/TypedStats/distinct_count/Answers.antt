@@ -5,8 +5,8 @@ use Rattle.stats.proofs.integer.TypedStats.distinct_count.Goals as goal
 
 pub returns : goal.returns
 returns g c =
-    let e = c.in-ok-self.was in
+    let e = c.in_ok-self.was in
     record {
-      stands = λ n t h. count_of g.T.Whole.cell c.in-ok-self.field-0 c.args.self.now.distinct n t e h;
+      stands = λ n t h. count_of g.T.Whole.cell c.in_ok-self.field-0 c.args.self.now.distinct n t e h;
       pairs = sym (ap number_in e);
     }
