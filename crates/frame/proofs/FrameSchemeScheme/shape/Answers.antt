@@ -7,5 +7,5 @@ use Rattle.frame.proofs.FrameSchemeScheme.shape.Goals as goal
 pub returns : goal.returns
 returns c =
     let v = c.args.array in
-    outline-is (seen v) _ c.of_bits.result.bits c.rows.result c.has_blank-has_blank.result
-    c.payload_len-payload.ensures c.of_bits.ensures.bits (c.rows.ensures ∙ sym (view-rows v)) c.has_blank-has_blank.ensures c.requires.clean.clean
+    outline-is (seen v) _ c.of-bits.result.bits c.rows.result c.has_blank-has_blank.result
+    c.payload_len-payload.ensures c.of-bits.ensures.bits (c.rows.ensures ∙ sym (view-rows v)) c.has_blank-has_blank.ensures c.requires.clean.clean

@@ -12,5 +12,5 @@ returns-in-len3 c = c.kind_of_three.ensures ∙ sym (ap kind_named (spelt3 c.arg
 pub returns-in_default : goal.returns-in_default
 returns-in_default c = no_kind c.args.name.now (λ e. omega (arith, ltb-false, ltb-true)) (λ e. omega (arith, ltb-false, ltb-true))
 
-pub returns-in_default·2 : goal.returns-in_default·2
-returns-in_default·2 c = no_kind c.args.name.now (λ e. omega (arith, ltb-false, ltb-true)) (λ e. omega (arith, ltb-false, ltb-true))
+pub returns-in_default-2 : goal.returns-in_default-2
+returns-in_default-2 c = no_kind c.args.name.now (λ e. omega (arith, ltb-false, ltb-true)) (λ e. omega (arith, ltb-false, ltb-true))

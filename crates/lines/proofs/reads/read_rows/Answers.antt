@@ -19,13 +19,13 @@ finish-requires c =
     let h = turn-few (number_of c.args.kind) c.args.text.now c.loop-rest.rest.now c.loop-rest.rows c.loop-rest.invariant c.requires.few in
     record { few = h.0; worded = h.1 }
 
-pub returns-in-err-push : goal.returns-in-err-push
-returns-in-err-push c =
+pub returns-in_err-push : goal.returns-in_err-push
+returns-in_err-push c =
     let p = err_from_is_err_and c.from_residual.result c.from_residual.ensures.1 in
     rw (p.1, p.2) (turn-some (number_of c.args.kind) c.args.text.now c.loop-rest.rest.now c.loop-rest.rows c.loop-rest.invariant c.loop-rest-test.ensures)
 
-pub returns-in-err-finish : goal.returns-in-err-finish
-returns-in-err-finish c =
-    let p = err_from_is_err_and c.from_residual-in-err-finish.result c.from_residual-in-err-finish.ensures.1 in
+pub returns-in_err-finish : goal.returns-in_err-finish
+returns-in_err-finish c =
+    let p = err_from_is_err_and c.from_residual-in_err-finish.result c.from_residual-in_err-finish.ensures.1 in
     rw (p.1, p.2)
-    (turn-rows (number_of c.args.kind) c.args.text.now c.loop-rest.rest.now c.loop-rest.rows c.loop-rest.invariant c.in-err-finish.ensures.refused)
+    (turn-rows (number_of c.args.kind) c.args.text.now c.loop-rest.rest.now c.loop-rest.rows c.loop-rest.invariant c.in_err-finish.ensures.refused)
