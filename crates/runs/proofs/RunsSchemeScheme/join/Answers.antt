@@ -18,7 +18,7 @@ returns c =
     let es : take (e - 0) ends ≡ values (seen s.child1) = ap (λ z. take z ends) (let s : e - 0 ≡ e = omega arith in s) ∙ c.gather-end_count.ensures.front in
     let all = unrun 0 (values (seen s.child0)) (values (seen s.child1)) in
     let vs : take (m - 0) out ≡ take s.rows all =
-    ap (λ z. take z out) (let s : m - 0 ≡ m = omega arith in s) ∙ c.write_runs-count.ensures.front ∙ (λ t. take (c.split_at_mut-values.ensures.front-len t) (unrun 0 (fs t) (es t))) in
+    ap (λ z. take z out) (let s : m - 0 ≡ m = omega arith in s) ∙ c.write_runs-count.ensures.front ∙ (λ t. take (c.split_at_mut-values.ensures.front_len t) (unrun 0 (fs t) (es t))) in
     ap (λ rs. record { kind = number_of s.kind; rows = rs })
     (joined-rows s.rows (length c.args.cells.now) s.flag s.payload.now c.read_mask.new.words c.args.words.now c.spread.new.cells _ all
     c.requires.joinable.words c.read_mask.ensures c.requires.joinable.cells (c.spread.auto.cells ∙ c.requires.joinable.cells) vs c.spread.ensures)

@@ -22,8 +22,8 @@ loop-i-preserved c =
     let b : get_or (word_bits n ws) i 0 ≡ get_or ws (i / 64) 0 / 2 ^ (i % 64) % 2 = word-bit n ws i a c.loop-i-test.true in
     let lb : length (word_bits n ws) ≡ n = length_digits 2 n (joined (2 ^ 64) ws) in
     elim c.if-words-i-eq1.branch [
-      | then-words-i-eq1 w ↦ (spread-value s _ _ _ (omega arith) (omega arith) (b ∙ w.if-words-i-eq1.true) w.value_at.ensures w.cells-is w.next_is, omega (arith, w.next_is))
-      | else-words-i-eq1 w ↦ (spread-blank s _ _ (omega arith) (omega arith) (omega arith) (λ e. w.if-words-i-eq1.false (sym b ∙ e)) w.cells-is w.next_is, omega (arith, w.next_is))
+      | then-words-i-eq1 w ↦ (spread-value s _ _ _ (omega arith) (omega arith) (b ∙ w.if-words-i-eq1.true) w.value_at.ensures w.cells-is w.next-is, omega (arith, w.next-is))
+      | else-words-i-eq1 w ↦ (spread-blank s _ _ (omega arith) (omega arith) (omega arith) (λ e. w.if-words-i-eq1.false (sym b ∙ e)) w.cells-is w.next-is, omega (arith, w.next-is))
     ]
 
 pub returns : goal.returns
