@@ -46,15 +46,15 @@ loop-i-preserved g c =
     let goal = asked v t h f (eligible ms k h) None in
     let eh = c.cascade_history.ensures in
     elim c.if-is_eligible.branch [
-      | then-is-eligible+in-Verdict-Skip w ↦
+      | then-is_eligible+in-Verdict-Skip w ↦
           let ea : Verdict Skip ≡ (at ms i).answer v t h f = search rules in
           kept-skip v t h f ms k i T T2 b b2 goal lt c.loop-i.invariant (competes-at ms k i eh w.if-is_eligible.ensures) ea w.table-is w.best-is
-      | then-is-eligible+in-Verdict-Ratio w ↦
+      | then-is_eligible+in-Verdict-Ratio w ↦
           let e : true ≡ competes ms k h (at ms i) = competes-at ms k i eh w.if-is_eligible.ensures in
           let ea : Verdict (Ratio w.in-Verdict-Ratio.ratio) ≡ (at ms i).answer v t h f = search rules in
           kept-ratio v t h f ms k i T T2 b b2 goal lt c.loop-i.invariant w.in-Verdict-Ratio.ratio w.better_of-best.result e ea w.table-is w.best-is
           (w.better_of-best.ensures.is ms) (w.better_of-best.ensures.able ms k (able-here ms k h i lt e) c.loop-i.invariant.leader)
-      | then-is-eligible+in-Deferred w ↦
+      | then-is_eligible+in-Deferred w ↦
           kept-deferred v t h f ms k i T T2 b b2 goal lt c.loop-i.invariant w.in-Deferred.estimate w.put.new.self (competes-at ms k i eh w.if-is_eligible.ensures) w.in-Deferred.ensures
           w.table-is w.put.ensures.slots w.put.ensures.len w.best-is
       | else-is_eligible w ↦ kept_out v t h f ms k i T T2 b b2 goal lt c.loop-i.invariant (competes-at ms k i eh w.if-is_eligible.ensures) w.table-is w.best-is
