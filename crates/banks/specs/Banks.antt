@@ -1,5 +1,5 @@
 -- The two banks, by the meanings of their schemes.
-use Rattle.std.specs.Prelude.{◌≡◌, List, [], ◌∷◌, map, ℕ}
+use Rattle.std.specs.Prelude.{◌≡◌, List, [], ◌∷◌, map}
 use Rattle.scheme.specs.Meaning.{Meaning}
 use Rattle.scheme.specs.Banks.{AllKeep}
 use Rattle.dict.specs.Dict.{dict}

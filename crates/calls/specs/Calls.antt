@@ -1,13 +1,13 @@
 -- What each call of a binder answers and leaves: the contracts of the calls, and the steps of a run.
-use Rattle.std.specs.Prelude.{◌≡◌, ℕ, zero, suc, ◌+◌, ◌-◌, ◌<◌, ◌≤◌, Bool, true, false, ◌||◌, List, [], ◌∷◌, ◌++◌, length, drop, replicate, Some, None, Ok, Err, Option, Result, nat_le, nat_lt}
+use Rattle.std.specs.Prelude.{◌≡◌, ℕ, zero, suc, ◌+◌, ◌-◌, ◌≤◌, Bool, true, false, ◌||◌, List, ◌++◌, length, drop, replicate, Some, None, Ok, Err, Option, Result, nat_le, nat_lt}
 use Rattle.std.proofs.Math.ListN.{get_elem?}
-use Rattle.std.proofs.Math.Option.{none, some}
+use Rattle.std.proofs.Math.Option.{some}
 use Rattle.packing.specs.Packing.{written, written_at}
 use Rattle.column.specs.declared.refusals.Refusal.{Refusal}
 use Rattle.column.specs.declared.refusals.Refusal.TheVariants.{LittleMemory, ManyColumns, LittleSpace, UnknownColumn, ShortBuffers}
 use Rattle.column.specs.Kinds.{number_of}
 use Rattle.column.specs.Columns.{Column, Clean, Offer, cleaned, offer_refused, cells, presence, words_for}
-use Rattle.node.specs.Nodes.{Node, flat, flats, whole, weight}
+use Rattle.node.specs.Nodes.{Node, flat, flats, whole}
 use Rattle.node.specs.Reading.{after_node, weight_read, whole_length}
 use Rattle.levels.specs.Levels.{Bound, bound}
 use Rattle.levels.specs.NodesOf.{Each}

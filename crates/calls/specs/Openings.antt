@@ -1,9 +1,8 @@
 -- What a binder is opened over, and when that is refused.
-use Rattle.std.specs.Prelude.{◌≡◌, ℕ, Bool, true, false, not, ◌&&◌, ◌||◌, List, [], ◌∷◌, length, Some, None, Option, ◌==◌, nat_le}
+use Rattle.std.specs.Prelude.{◌≡◌, ℕ, Bool, true, false, not, ◌&&◌, ◌||◌, List, [], ◌∷◌, length, None, Option, ◌==◌, nat_le}
 use Rattle.column.specs.declared.refusals.Refusal.{Refusal}
 use Rattle.column.specs.declared.refusals.Refusal.TheVariants.{BadOpening}
 use Rattle.column.specs.Columns.{or_else}
-use Rattle.sample.specs.Draws.{Source}
 use Rattle.scheme.specs.Meaning.{Meaning}
 use Rattle.levels.specs.Standing.{Opening, Keep}
 

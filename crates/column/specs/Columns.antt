@@ -1,12 +1,11 @@
 -- A cleaned column: a kind, and for each row a value or a blank. Nothing stands under a blank, so two calls that differ only there
 -- have the same column.
-use Rattle.std.specs.Prelude.{◌≡◌, ℕ, zero, suc, ◌+◌, ◌-◌, ◌*◌, ◌/◌, ◌%◌, ◌^◌, ◌<◌, ◌≤◌, Bool, true, false, cond, not, ◌&&◌, ◌||◌, List, [], ◌∷◌, ◌++◌, map, length, Some, None, Ok, Err, Option, Result, ◌==◌, nat_le, nat_lt}
+use Rattle.std.specs.Prelude.{◌≡◌, ℕ, zero, suc, ◌+◌, ◌/◌, ◌^◌, ◌≤◌, Bool, true, false, not, ◌||◌, List, [], ◌∷◌, map, length, Some, None, Option, ◌==◌, nat_le, nat_lt}
 use Rattle.packing.specs.Packing.{joined, digits}
-use Rattle.column.specs.declared.kinds.Kind.{Kind}
 use Rattle.column.specs.declared.refusals.Refusal.{Refusal}
 use Rattle.column.specs.declared.refusals.Refusal.TheVariants.{UnknownKind, TooManyRows, BadPresence, ValueOutside}
 use Rattle.column.specs.declared.views.View.{View}
-use Rattle.column.specs.Kinds.{width, key, in_kind, number_of, kind_of}
+use Rattle.column.specs.Kinds.{in_kind, number_of}
 
 -- a value, as a 64-bit cell, or a blank
 abbrev pub Row : Type 0

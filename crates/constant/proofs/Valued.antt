@@ -1,11 +1,11 @@
 -- Values, row by row: what is left to look at gives the goal.
-use Rattle.std.proofs.Common.{◌≡◌, ℕ, zero, suc, ◌+◌, ◌<◌, ◌≤◌, Bool, true, false, ◌&&◌, eqb, List, [], ◌∷◌, length, get_or, drop, Some, None, Option, sym, refl, ap, ◌∙◌}
+use Rattle.std.proofs.Common.{◌≡◌, ℕ, zero, suc, ◌+◌, ◌<◌, ◌≤◌, Bool, true, false, ◌&&◌, List, [], ◌∷◌, length, get_or, drop, Some, None, sym, refl, ap, ◌∙◌}
 use Rattle.std.proofs.lemmas.List.{drop_more, drop_all}
 use Rattle.std.proofs.lemmas.Bool.{true≢false, eq-eqb, ne_eqb}
-use Rattle.column.specs.Columns.{Row, Offer, row_of, values_of, offered, word_bits}
+use Rattle.column.specs.Columns.{Offer, row_of, values_of, offered, word_bits}
 use Rattle.column.specs.Views.{is_value}
 use Rattle.column.proofs.RowLaws.{row_at, length_digits, length-offered}
-use Rattle.constant.specs.Constants.{all_equal_to, first_value}
+use Rattle.constant.specs.Constants.{all_equal_to}
 
 some-by : (b w : ℕ) → is_value (row_of b w) ≡ true → row_of b w ≡ Some w
 some-by zero w h = absurd (true≢false (sym h))

@@ -1,5 +1,5 @@
 -- Frame, scheme 18: the least value, and each value's distance from it, packed at as many bits as the greatest distance needs.
-use Rattle.std.specs.Prelude.{ℕ, ◌+◌, ◌-◌, ◌%◌, ◌^◌, min, Bool, true, false, ◌||◌, List, [], ◌∷◌, ◌++◌, map, length, take, drop, Some, None, Ok, Result, ◌==◌, slice_index}
+use Rattle.std.specs.Prelude.{ℕ, ◌+◌, ◌-◌, ◌%◌, ◌^◌, min, Bool, true, false, ◌||◌, List, [], ◌∷◌, ◌++◌, map, take, drop, Some, None, Ok, Result, ◌==◌, slice_index}
 use Rattle.packing.specs.Packing.{packed, unpacked, packed_len, bit_length}
 use Rattle.column.specs.Kinds.{width, key}
 use Rattle.column.specs.Columns.{Row, Column, values, rows_of}

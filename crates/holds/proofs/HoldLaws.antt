@@ -1,21 +1,20 @@
 -- What the levels make holds the column and is no heavier than plain.
-use Rattle.std.proofs.Common.{◌≡◌, ℕ, zero, suc, ◌+◌, ◌*◌, ◌<◌, ◌≤◌, Bool, true, false, not, ◌&&◌, eqb, ltb, ◌⊎◌, List, [], ◌∷◌, ◌++◌, length, Some, None, Ok, Err, Result, sym, refl, ap, ◌∙◌, subst, inl, inr, le_refl, le_of_lt, zero-lt-suc, arith}
+use Rattle.std.proofs.Common.{◌≡◌, ℕ, zero, suc, ◌≤◌, Bool, true, false, not, eqb, ltb, List, [], ◌∷◌, ◌++◌, length, Some, None, Ok, Err, Result, sym, refl, subst, inl, inr, le_refl, le_of_lt, arith}
 use Rattle.std.specs.List.{AllByRecursion as All}
 use Rattle.std.proofs.lemmas.Bool.{ltb-true, eqb-true, and_parts}
 use Rattle.column.specs.Columns.{Row, Column, Clean, values}
-use Rattle.node.specs.Nodes.{Node, head_of, payload_of, children_of, weight, plain_node, constant_node, blank_node, OneValue, Bare, node_over}
+use Rattle.node.specs.Nodes.{Node, weight, plain_node, constant_node, OneValue, Bare}
 use Rattle.node.proofs.NodeBytes.{over-head, over-payload, over-children}
 use Rattle.sample.specs.Draws.{Source}
 use Rattle.scheme.specs.Meaning.{Meaning, Parts, AllClean, History}
 use Rattle.scheme.specs.Banks.{AllKeep, at}
 use Rattle.constant.specs.Constants.{all_equal_to, constantly}
 use Rattle.levels.specs.Choice.{Chosen}
-use Rattle.levels.specs.Levels.{Bound, Below, Kids, kid_step, kids_below, scheme_head, scheme_node, over_kids, bound_by, scheme_bound, choice, lighter_by, lighter, or_plain, won, competed, taken_constant, constant_by, leveled, level, levels}
+use Rattle.levels.specs.Levels.{Bound, Below, Kids, kid_step, kids_below, scheme_head, over_kids, bound_by, scheme_bound, choice, lighter_by, or_plain, won, competed, taken_constant, constant_by, leveled, levels}
 use Rattle.levels.specs.NodesOf.{Each, Able, SchemeOf, NodeOf}
-use Rattle.levels.specs.Plans.{node_count, places}
-use Rattle.holds.specs.Holding.{Holding, SchemeHolding, LevelsHold, SchemesHold}
+use Rattle.holds.specs.Holding.{LevelsHold, SchemesHold}
 use Rattle.holds.proofs.Choosing.{In, ChosenOk, choice-in}
-use Rattle.holds.proofs.Sizes.{Sized, node-sized, node-bytes, places-suc, kids-clean, kids-few, each-length}
+use Rattle.holds.proofs.Sizes.{node-sized, node-bytes, places-suc, kids-clean, kids-few, each-length}
 
 -- ---- one value
 

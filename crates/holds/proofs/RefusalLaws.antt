@@ -1,10 +1,10 @@
 -- A refusal of the levels comes from the parts of a clean column.
-use Rattle.std.proofs.Common.{◌≡◌, ℕ, zero, suc, ◌+◌, ◌*◌, ◌<◌, ◌≤◌, min, Bool, true, false, ◌⊎◌, List, [], ◌∷◌, ◌++◌, length, Some, None, Ok, Err, Option, Result, sym, refl, ap, ◌∙◌, subst, inl, inr, le_refl, arith, length-append}
+use Rattle.std.proofs.Common.{◌≡◌, ℕ, zero, suc, ◌+◌, ◌≤◌, Bool, true, false, List, [], ◌∷◌, ◌++◌, length, Some, None, Ok, Err, Option, Result, refl, subst, inl, inr, le_refl, arith, length-append}
 use Rattle.column.specs.declared.refusals.Refusal.{Refusal}
 use Rattle.column.specs.Columns.{Row, Column, Clean, values}
 use Rattle.node.specs.Nodes.{Node}
 use Rattle.sample.specs.Draws.{Source, Within}
-use Rattle.sample.specs.Samples.{sample_count, sample_rows, sample_of}
+use Rattle.sample.specs.Samples.{sample_of}
 use Rattle.sample.proofs.SampleLaws.{sample-clean, sample-length}
 use Rattle.scheme.specs.declared.estimate.DeferredEstimate.{DeferredEstimate}
 use Rattle.scheme.specs.declared.estimate.DeferredEstimate.TheVariants.{Sample, Callback}
@@ -14,7 +14,7 @@ use Rattle.scheme.specs.Banks.{AllKeep, at}
 use Rattle.levels.specs.Choice.{Chosen}
 use Rattle.levels.specs.Levels.{Bound, Below, Kids, kid_step, kids_below, over_kids, bound_by, scheme_bound, score_by, late, stats_at, choice, or_plain, won, competed, taken_constant, constant_by, leveled, levels}
 use Rattle.levels.specs.NodesOf.{Able}
-use Rattle.holds.specs.Refusing.{Among, Reached, itself, sampled, child, Refuses, LevelsRefuse, NeverRefuses, LevelsTake}
+use Rattle.holds.specs.Refusing.{Among, Reached, itself, sampled, child, Refuses, LevelsRefuse, LevelsTake}
 use Rattle.holds.proofs.Choosing.{bank-at, In, VerdictOk, ChosenOk, choice-ok, all-eligible}
 use Rattle.holds.proofs.Sizes.{kids-clean}
 

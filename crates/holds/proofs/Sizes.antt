@@ -1,5 +1,5 @@
 -- A node that holds a clean column fits its bytes and is as small as its levels allow.
-use Rattle.std.proofs.Common.{◌≡◌, ℕ, zero, suc, ◌+◌, ◌*◌, ◌^◌, ◌<◌, ◌≤◌, max, ◌⊎◌, List, [], ◌∷◌, length, Ok, Err, Result, sym, refl, ap, subst, inl, inr, zero-lt-suc, arith}
+use Rattle.std.proofs.Common.{◌≡◌, ℕ, zero, suc, ◌+◌, ◌*◌, ◌<◌, ◌≤◌, List, [], ◌∷◌, length, Ok, Result, sym, refl, ap, subst, inl, inr, zero-lt-suc, arith}
 use Rattle.std.specs.List.{AllByRecursion as All}
 use Rattle.std.proofs.lemmas.Bool.{leb-true}
 use Rattle.packing.specs.Packing.{Below}
@@ -10,7 +10,7 @@ use Rattle.node.specs.Payloads.{plain_payload, constant_payload}
 use Rattle.node.specs.Nodes.{Node, leaf, over, fork, head_of, payload_of, children_of, weight, whole, flat, flats, height, plain_node, constant_node, blank_node, OneValue, Bare, FitHead, Fit}
 use Rattle.node.proofs.LeafLaws.{length-plain, plain-small, below_plain, length-constant, constant-small, below-constant, bare-fit}
 use Rattle.node.proofs.NodeBytes.{below-flat}
-use Rattle.scheme.specs.Meaning.{Meaning, Parts, AllClean, PartsKeep, PartedKeeps, Keeps}
+use Rattle.scheme.specs.Meaning.{Meaning, Parts, AllClean, PartsKeep, PartedKeeps}
 use Rattle.scheme.specs.Banks.{AllKeep, at}
 use Rattle.levels.specs.Levels.{scheme_head}
 use Rattle.levels.specs.NodesOf.{Each, Able, SchemeOf, NodeOf}

@@ -1,5 +1,5 @@
 -- What every node is that the levels make.
-use Rattle.std.specs.Prelude.{◌≡◌, ℕ, suc, ◌+◌, ◌*◌, ◌≤◌, Bool, true, List, length, Ok}
+use Rattle.std.specs.Prelude.{◌≡◌, ℕ, suc, ◌+◌, ◌*◌, ◌≤◌, Bool, List, Ok}
 use Rattle.packing.specs.Packing.{Below}
 use Rattle.column.specs.Columns.{Column, Clean}
 use Rattle.node.specs.Nodes.{Node, weight, head_size, whole, flat, height, plain_node, Fit}

@@ -1,5 +1,5 @@
 -- The choice among the eligible schemes: immediate answers first, then the deferred, each in bank order.
-use Rattle.std.specs.Prelude.{ℕ, Bool, true, false, ◌&&◌, List, [], ◌∷◌, Some, None, Ok, Err, Option, Result}
+use Rattle.std.specs.Prelude.{Bool, true, false, ◌&&◌, List, [], ◌∷◌, Some, None, Ok, Err, Option, Result}
 use Rattle.column.specs.declared.refusals.Refusal.{Refusal}
 use Rattle.column.specs.Columns.{Column}
 use Rattle.stats.specs.Stats.{Stats}
@@ -9,7 +9,7 @@ use Rattle.scheme.specs.declared.estimate.EstimateVerdict.{EstimateVerdict}
 use Rattle.scheme.specs.declared.estimate.EstimateVerdict.TheVariants.{Skip, AlwaysUse, Ratio}
 use Rattle.scheme.specs.declared.estimate.DeferredEstimate.{DeferredEstimate}
 use Rattle.scheme.specs.declared.estimate.EstimateScore.{EstimateScore}
-use Rattle.scheme.specs.declared.estimate.EstimateScore.TheVariants.{FiniteCompression, ZeroBytes}
+use Rattle.scheme.specs.declared.estimate.EstimateScore.TheVariants.{FiniteCompression}
 use Rattle.scheme.specs.Scores.{score_valid, beats_score}
 use Rattle.scheme.specs.Meaning.{Meaning, History}
 

@@ -1,6 +1,5 @@
 -- What goes from the first pass to the second, and the working memory of both.
 use Rattle.std.specs.Prelude.{ℕ, zero, suc, ◌+◌, ◌*◌, List, [], ◌∷◌, ◌++◌}
-use Rattle.node.specs.declared.heads.Head.{Head}
 use Rattle.node.specs.Nodes.{Node, leaf, over, fork}
 
 -- how many nodes a tree has

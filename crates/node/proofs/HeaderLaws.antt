@@ -3,7 +3,7 @@ use Rattle.std.proofs.Common.{◌≡◌, ℕ, ◌<◌, ◌≤◌, max, Bool, tru
 use Rattle.std.proofs.lemmas.Bool.{ltb-true, ltb-false, lt-ltb, le-ltb}
 use Rattle.std.proofs.lemmas.List.{take_all, drop_all}
 use Rattle.node.specs.declared.heads.Header.{Header}
-use Rattle.node.specs.Nodes.{Node, whole, head_size, flat, Fit}
+use Rattle.node.specs.Nodes.{Node, head_size, flat, Fit}
 use Rattle.node.specs.Reading.{payload_length, whole_length, payload_read, after_payload, after_node, header_at, header_by, header_read, header_of}
 use Rattle.node.proofs.NodeBytes.{length-flat, whole_is, head-back, payload_length-back, whole_back}
 

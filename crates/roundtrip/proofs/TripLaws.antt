@@ -1,15 +1,14 @@
 -- The two halves of a scheme together.
-use Rattle.std.proofs.Common.{◌≡◌, ℕ, zero, suc, ◌+◌, ◌-◌, ◌*◌, ◌/◌, ◌<◌, ◌≤◌, Bool, true, false, ltb, List, [], ◌∷◌, ◌++◌, map, length, take, drop, Ok, Err, Result, sym, refl, ap, ◌∙◌, subst, ap₂, le_refl, arith, lit<}
+use Rattle.std.proofs.Common.{◌≡◌, ℕ, zero, suc, ◌+◌, ◌-◌, ◌*◌, ◌/◌, ◌<◌, ◌≤◌, Bool, true, false, ltb, List, [], ◌∷◌, map, length, take, drop, Ok, Err, Result, sym, refl, ap, ◌∙◌, subst, ap₂, le_refl, arith, lit<}
 use Rattle.std.proofs.lemmas.List.{take-append-le, take_all, length-take, length-take-le}
 use Rattle.std.proofs.lemmas.Bool.{lt-ltb, ltb-true}
-use Rattle.packing.specs.Packing.{written, digits}
-use Rattle.packing.proofs.Digits.{length_digits}
+use Rattle.packing.specs.Packing.{written}
 use Rattle.column.specs.Kinds.{number_of}
-use Rattle.column.specs.Columns.{Column, Clean, Offer, Row, offer_of, offered, cleaned, rows_of, words_for, Sound}
+use Rattle.column.specs.Columns.{Column, Clean, Offer, cleaned, words_for, Sound}
 use Rattle.column.specs.declared.views.View.{View}
 use Rattle.scheme.specs.declared.scheme.Shape.{Shape}
-use Rattle.scheme.specs.Meaning.{Meaning, Parts, Keeps, PartsKeep, PartedKeeps, AllClean, NoLonger}
-use Rattle.scheme.specs.Memory.{Outline, outline, outlined, stored_child, child_seen, shape_seen, payload_in}
+use Rattle.scheme.specs.Meaning.{Meaning, Parts, Keeps, PartsKeep, PartedKeeps, NoLonger}
+use Rattle.scheme.specs.Memory.{outline, stored_child, child_seen, shape_seen, payload_in}
 use Rattle.scheme.proofs.StoredLaws.{cleaned-stored}
 use Rattle.roundtrip.specs.Trips.{gathered, Returned}
 

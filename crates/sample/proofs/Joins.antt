@@ -1,5 +1,5 @@
 -- Digits of a number from a place on, and presence words from a row on.
-use Rattle.std.proofs.Common.{◌≡◌, ℕ, zero, suc, ◌+◌, ◌-◌, ◌*◌, ◌/◌, ◌%◌, ◌^◌, ◌<◌, ◌≤◌, List, [], ◌∷◌, ◌++◌, map, length, get_or, take, drop, Some, None, sym, refl, ap, ◌∙◌, subst, lt_of_lt_of_le, mod-eq_of_lt, mul_assoc, pow-suc, mul-suc, div-one, arith, lit<, length-append, pow_pos, pow_mono, pow-add}
+use Rattle.std.proofs.Common.{◌≡◌, ℕ, zero, suc, ◌+◌, ◌-◌, ◌*◌, ◌/◌, ◌%◌, ◌^◌, ◌<◌, ◌≤◌, List, [], ◌∷◌, ◌++◌, map, length, get_or, take, drop, Some, None, sym, refl, ap, ◌∙◌, subst, lt_of_lt_of_le, mul_assoc, pow-suc, mul-suc, div-one, arith, lit<, length-append, pow_pos, pow_mono, pow-add}
 use native.Mathlib.Nat.{mod-one, zero-mod, zero-div, div-div-eq-div-mul, mul-add-mod_self_right, mul-add-div_right, one-le-pow, pow-zero, pow-succ'}
 use lib.Arith.{digits_div, digits_mod, mod-mul}
 use Rattle.std.proofs.lemmas.Nat.{shr_below}

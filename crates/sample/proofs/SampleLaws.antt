@@ -6,8 +6,8 @@ use Rattle.packing.specs.Packing.{written, joined}
 use Rattle.packing.proofs.Digits.{length_digits}
 use Rattle.packing.proofs.Written.{take-written}
 use Rattle.column.specs.Kinds.{in_kind}
-use Rattle.column.specs.Columns.{Row, Column, Offer, Clean, stray_from, values_of, cells, bits, presence, words_for, offer_of}
-use Rattle.column.proofs.RowLaws.{length-cells, values-append}
+use Rattle.column.specs.Columns.{Row, Column, Clean, values_of, cells, bits, presence, words_for}
+use Rattle.column.proofs.RowLaws.{length-cells}
 use Rattle.column.proofs.StrayLaws.{stray-each, each-stray}
 use Rattle.sample.specs.Draws.{Bounds, Source, Within}
 use Rattle.sample.specs.Samples.{sample_count, strata, seed, bounds_of, drawn, sample_by, sample_rows, sample_of, drawn_rows, drawn_rows_by}

@@ -1,9 +1,9 @@
 -- One stratum more: what is written and what is left to draw.
-use Rattle.std.proofs.Common.{◌≡◌, ℕ, zero, suc, ◌+◌, ◌-◌, ◌*◌, ◌/◌, ◌%◌, ◌^◌, ◌<◌, ◌≤◌, false, leb, List, [], ◌∷◌, ◌++◌, length, get_or, take, drop, set, sym, refl, ap, ◌∙◌, subst, add-one, arith, length-drop, length-take}
+use Rattle.std.proofs.Common.{◌≡◌, ℕ, zero, suc, ◌+◌, ◌-◌, ◌*◌, ◌/◌, ◌%◌, ◌^◌, ◌<◌, ◌≤◌, false, leb, List, [], ◌∷◌, ◌++◌, length, get_or, take, drop, set, sym, ap, ◌∙◌, subst, add-one, arith, length-drop, length-take}
 use borrow.Rule.Slice.PartMut.{put_mid}
 use Rattle.std.proofs.lemmas.List.{drop_more, drop_all, length-map, map-append}
 use Rattle.std.proofs.lemmas.Bool.{lt-leb, leb-true}
-use Rattle.packing.specs.Packing.{joined, written, written_at}
+use Rattle.packing.specs.Packing.{joined, written_at}
 use Rattle.packing.proofs.Written.{written_at-none, written_at-one, written_at-++}
 use Rattle.packing.proofs.Digits.{length_digits}
 use Rattle.column.specs.declared.views.View.{View}
@@ -12,7 +12,7 @@ use Rattle.column.proofs.RowLaws.{length-offered}
 use Rattle.sample.specs.Draws.{Bounds, Source, Within}
 use Rattle.sample.specs.Samples.{sample_count, strata, seed, bounds_of, drawn, sample_by, sample_rows}
 use Rattle.sample.specs.Laws.{stratum_at}
-use Rattle.sample.proofs.StrataLaws.{length-strata, wide, ends}
+use Rattle.sample.proofs.StrataLaws.{wide, ends}
 use Rattle.sample.proofs.Joins.{map-take, map-drop, presence-more, presence-joined, block-word}
 
 -- the bounds asked for the first i strata

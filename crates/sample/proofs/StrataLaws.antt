@@ -1,5 +1,5 @@
 -- Where each stratum lies.
-use Rattle.std.proofs.Common.{◌≡◌, ℕ, zero, suc, ◌+◌, ◌-◌, ◌*◌, ◌/◌, ◌%◌, ◌<◌, ◌≤◌, min, List, [], ◌∷◌, length, get_or, sym, refl, ap, ◌∙◌, le_of_suc-le-suc, mul-le-mul_right, mod-lt, zero-lt-suc, suc-mul, mul_comm, div-add-mod', le-div_iff_mul-le, arith}
+use Rattle.std.proofs.Common.{◌≡◌, ℕ, zero, suc, ◌+◌, ◌-◌, ◌*◌, ◌/◌, ◌%◌, ◌<◌, ◌≤◌, min, length, get_or, sym, refl, ap, ◌∙◌, le_of_suc-le-suc, mul-le-mul_right, mod-lt, zero-lt-suc, suc-mul, mul_comm, div-add-mod', le-div_iff_mul-le, arith}
 use Rattle.sample.specs.Samples.{strata_from, strata}
 use Rattle.sample.specs.Laws.{stratum_at, Covers}
 

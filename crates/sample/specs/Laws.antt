@@ -1,9 +1,9 @@
 -- What strata cover, and what a call samples.
-use Rattle.std.specs.Prelude.{◌≡◌, ℕ, zero, suc, ◌+◌, ◌-◌, ◌*◌, ◌/◌, ◌<◌, ◌≤◌, min, Bool, false, ◌⊎◌, List, [], ◌∷◌, map, length, take, replicate, Some, None, Option, slice_index_or}
+use Rattle.std.specs.Prelude.{◌≡◌, ℕ, zero, suc, ◌+◌, ◌-◌, ◌/◌, ◌<◌, ◌≤◌, false, ◌⊎◌, List, [], ◌∷◌, map, length, take, Some, None, Option, slice_index_or}
 use Rattle.packing.specs.Packing.{written}
-use Rattle.column.specs.Columns.{Row, Column, Offer, Clean, cells, presence, offer_of}
-use Rattle.sample.specs.Draws.{Bounds, Source, Within, mill}
-use Rattle.sample.specs.Samples.{sample_count, strata, seed, sample_rows, sample_of}
+use Rattle.column.specs.Columns.{Row, Column, Clean, cells, presence, offer_of}
+use Rattle.sample.specs.Draws.{Bounds, Source}
+use Rattle.sample.specs.Samples.{strata, seed, sample_of}
 
 -- stratum i: its first row and the row after its last
 abbrev pub stratum_at : ℕ → ℕ → ℕ → ℕ × ℕ

@@ -1,5 +1,5 @@
 -- A history holds as many entries as it says.
-use Rattle.std.proofs.Common.{◌≡◌, ◌≤◌, length, arith}
+use Rattle.std.proofs.Common.{◌≡◌, length, arith}
 use Rattle.std.proofs.lemmas.List.{length-take-le}
 use Rattle.scheme.specs.declared.ctx.CascadeHistory.{CascadeHistory}
 use Rattle.scheme.specs.Memory.{entries_of}

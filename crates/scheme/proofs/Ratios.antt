@@ -1,14 +1,12 @@
 -- The laws of ratios.
-use Rattle.std.proofs.Common.{◌≡◌, ℕ, zero, suc, ◌*◌, ◌<◌, ◌≤◌, Bool, true, false, cond, not, ◌&&◌, ◌||◌, eqb, ltb, ◌⊎◌, ℤ, pos, negsuc, sym, refl, ap, ◌∙◌, subst, ap₂, inl, inr, true≢false, le_of_eq, le_of_lt, lt_irrefl, mul_comm, le_antisymm, lt_of_not-le, not-le_of_lt, arith}
+use Rattle.std.proofs.Common.{◌≡◌, ℕ, ◌*◌, ◌<◌, ◌≤◌, Bool, true, false, cond, not, ◌&&◌, ◌||◌, eqb, ltb, ◌⊎◌, pos, sym, refl, ap, ◌∙◌, ap₂, inl, inr, true≢false, le_of_eq, le_of_lt, le_antisymm, lt_of_not-le, not-le_of_lt}
 use mathlib.Core.Bool.{and-true}
 use lib.Ieee.{Float, nan, inf, fin, binary64, lt, le, eq, of_bits, of_fields, odd, div, of_int, round, unlike, up, down}
 use lib.Ieee.Positive.{num, den, den_pos, through}
 use lib.Count.{count_trailing_zeros}
 use Rattle.std.specs.Float.{float_is_finite, is_subnormal, float_one, float_with_sign}
 use Rattle.std.proofs.lemmas.Bool.{ltb-true, ltb-false, lt-ltb, le-ltb, eqb-true, eq-eqb}
-use Rattle.scheme.specs.declared.estimate.EstimateScore.{EstimateScore}
-use Rattle.scheme.specs.declared.estimate.EstimateScore.TheVariants.{FiniteCompression, ZeroBytes}
-use Rattle.scheme.specs.Scores.{ratio_of, above, same, valid, score_of, score_valid, beats_score, Ordered, Counted, Divided, Ranked, RatioLaws}
+use Rattle.scheme.specs.Scores.{above, same, valid, Ordered, Counted, Divided, Ranked, RatioLaws}
 
 -- the bits of 1.0
 pub one-bits : of_bits binary64 4607182418800017408 ≡ float_one

@@ -1,5 +1,5 @@
 -- A column as it is stored reads back as itself.
-use Rattle.std.proofs.Common.{◌≡◌, ℕ, zero, suc, ◌+◌, ◌*◌, ◌/◌, ◌^◌, ◌<◌, ◌≤◌, List, [], ◌∷◌, map, length, Some, None, sym, refl, ap, ◌∙◌, subst, ap₂, lt_of_lt_of_le, arith, lit<, pow_pos, pow_mono}
+use Rattle.std.proofs.Common.{◌≡◌, ℕ, suc, ◌*◌, ◌^◌, ◌<◌, ◌≤◌, List, [], ◌∷◌, length, Some, None, sym, refl, ap, ◌∙◌, subst, ap₂, lt_of_lt_of_le, arith, lit<, pow_mono}
 use Rattle.packing.specs.Packing.{joined, digits, Below}
 use Rattle.packing.proofs.Digits.{digits-joined, joined-digits, joined-lt, length_digits}
 use Rattle.packing.proofs.Packed.{pow-mul}

@@ -1,5 +1,5 @@
 -- Lists of meanings: what a bank means.
-use Rattle.std.specs.Prelude.{ℕ, suc, Bool, true, false, cond, List, [], ◌∷◌, Some, None, Ok, Err, Option, ◌==◌, slice_index_or}
+use Rattle.std.specs.Prelude.{ℕ, suc, false, cond, List, [], ◌∷◌, Some, None, Err, Option, ◌==◌, slice_index_or}
 use Rattle.scheme.specs.declared.estimate.CompressionEstimate.TheVariants.{Verdict}
 use Rattle.scheme.specs.declared.estimate.EstimateVerdict.TheVariants.{Skip}
 use Rattle.scheme.specs.Meaning.{Meaning, Keeps}

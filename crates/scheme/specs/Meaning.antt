@@ -1,5 +1,5 @@
 -- What a scheme means: one record, a value of it for each scheme.
-use Rattle.std.specs.Prelude.{◌≡◌, ℕ, zero, suc, ◌+◌, ◌*◌, ◌<◌, ◌≤◌, Bool, true, false, List, [], ◌∷◌, length, Some, None, Ok, Err, Option, Result}
+use Rattle.std.specs.Prelude.{◌≡◌, ℕ, ◌+◌, ◌*◌, ◌<◌, ◌≤◌, Bool, true, List, [], ◌∷◌, length, Some, None, Ok, Err, Option, Result}
 use Rattle.packing.specs.Packing.{Below}
 use Rattle.column.specs.Columns.{Column, Clean}
 use Rattle.stats.specs.Stats.{Stats}

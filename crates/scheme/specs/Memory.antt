@@ -1,5 +1,5 @@
 -- How lent memory holds what a scheme is asked about and what it gives.
-use Rattle.std.specs.Prelude.{◌≡◌, ℕ, ◌+◌, ◌*◌, ◌<◌, ◌≤◌, Bool, true, List, [], ◌∷◌, map, length, take, Ok, Err, Result}
+use Rattle.std.specs.Prelude.{◌≡◌, ℕ, ◌+◌, ◌*◌, ◌≤◌, Bool, List, [], ◌∷◌, map, length, take, Ok, Err, Result}
 use Rattle.column.specs.Kinds.{number_of}
 use Rattle.column.specs.Columns.{Column, Offer, offer_of, cleaned, seen, Sound, words_for}
 use Rattle.stats.specs.Stats.{Stats, stats}

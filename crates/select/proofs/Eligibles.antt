@@ -1,5 +1,5 @@
 -- The eligible schemes, one by one.
-use Rattle.std.proofs.Common.{◌≡◌, ℕ, Bool, true, false, ◌&&◌, ◌||◌, List, [], ◌∷◌, refl}
+use Rattle.std.proofs.Common.{◌≡◌, ℕ, Bool, true, false, ◌&&◌, ◌||◌, List, refl}
 use Rattle.scheme.specs.Meaning.{Meaning, History}
 use Rattle.scheme.specs.Exclusion.{competes, keep_if, eligible_of, wanted}
 use Rattle.scheme.proofs.Searches.{Any}

@@ -1,5 +1,5 @@
 -- What the loops over rules and entries look for, and the push rules of a scheme that was found by its id.
-use Rattle.std.proofs.Common.{◌≡◌, ℕ, suc, ◌+◌, Bool, true, false, cond, ◌&&◌, ◌||◌, eqb, List, [], ◌∷◌, Some, None, Option, sym, refl, ap, ◌∙◌, arith}
+use Rattle.std.proofs.Common.{◌≡◌, ℕ, suc, ◌+◌, Bool, true, false, cond, ◌&&◌, eqb, List, [], ◌∷◌, Some, None, Option, sym, refl, ap, ◌∙◌, arith}
 use Rattle.std.proofs.lemmas.Bool.{eq-eqb, ne_eqb}
 use Rattle.scheme.specs.declared.exclusion.DescendantExclusion.{DescendantExclusion}
 use Rattle.scheme.specs.declared.exclusion.AncestorExclusion.{AncestorExclusion}

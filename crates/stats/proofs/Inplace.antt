@@ -1,5 +1,5 @@
 -- The runs of the first n words, put where they stood, with their lengths in the next n.
-use Rattle.std.proofs.Common.{◌≡◌, ℕ, zero, suc, ◌+◌, ◌-◌, ◌<◌, ◌≤◌, true, false, eqb, List, [], ◌∷◌, ◌++◌, length, get_or, take, drop, set, sym, refl, ap, ◌∙◌, arith, eq-eqb, ne_eqb}
+use Rattle.std.proofs.Common.{◌≡◌, ℕ, zero, suc, ◌+◌, ◌<◌, ◌≤◌, true, false, eqb, List, [], ◌∷◌, ◌++◌, length, get_or, take, drop, set, sym, refl, ap, ◌∙◌, arith, eq-eqb, ne_eqb}
 use Rattle.std.proofs.lemmas.List.{take_more_set, take-set-le, drop_more, drop_all, drop-set-lt, drop-set-add, get_or-set_other, get_or-take, length-set, length-drop, length-take-le, append_assoc}
 use Rattle.stats.specs.Table.{heads_from, heads, lens_from, lens}
 

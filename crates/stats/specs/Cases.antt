@@ -1,5 +1,5 @@
 -- Worked cases, on both sides of each edge.
-use Rattle.std.specs.Prelude.{◌≡◌, ℕ, ◌+◌, ◌-◌, ◌^◌, true, false, List, [], ◌∷◌, ◌++◌, replicate, Some, None}
+use Rattle.std.specs.Prelude.{◌≡◌, ℕ, ◌-◌, ◌^◌, true, false, List, [], ◌∷◌, ◌++◌, replicate, Some, None}
 use Rattle.column.specs.Columns.{Row, Column, cleaned}
 use Rattle.stats.specs.Stats.{Stats, runs, quotient, stats, distinct_count, most_frequent, distinct_values, distinct_counts, max_minus_min, min_is_zero, min_is_negative, max_ilog2}
 

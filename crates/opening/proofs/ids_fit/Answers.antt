@@ -1,4 +1,4 @@
-use Rattle.std.proofs.Common.{◌≡◌, ◌<◌, ◌≤◌, length, sym, ◌∙◌, arith}
+use Rattle.std.proofs.Common.{◌<◌, ◌≤◌, length, sym, arith}
 use Rattle.opening.proofs.Ids.{ids_next, ids-stop, ids-end}
 use Rattle.opening.proofs.ids_fit.Goals as goal
 

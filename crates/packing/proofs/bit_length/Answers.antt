@@ -1,5 +1,4 @@
-use Rattle.std.proofs.Common.{◌≡◌, ℕ, ◌-◌, ◌^◌, ◌<◌, ◌≤◌, sym, ◌∙◌, subst}
-use lib.Count.{count_leading_zeros}
+use Rattle.std.proofs.Common.{sym}
 use Rattle.packing.proofs.Bits.{bits-leading, length-holds, length-least}
 use Rattle.packing.proofs.bit_length.Goals as goal
 

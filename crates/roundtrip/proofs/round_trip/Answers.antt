@@ -1,4 +1,4 @@
-use Rattle.std.proofs.Common.{◌≡◌, ◌+◌, ◌/◌, ◌≤◌, length, sym, refl, ap, ◌∙◌, arith}
+use Rattle.std.proofs.Common.{◌≤◌, length, sym, refl, ◌∙◌, arith}
 use Rattle.column.specs.Columns.{seen, offer_seen}
 use Rattle.scheme.specs.Memory.{spare}
 use Rattle.scheme.proofs.StoredLaws.{length-offered}

@@ -1,4 +1,4 @@
-use Rattle.std.proofs.Common.{◌≡◌, sym, ◌∙◌}
+use Rattle.std.proofs.Common.{sym, ◌∙◌}
 use Rattle.select.proofs.Excluding.{pushes-found, pushes-none}
 use Rattle.select.proofs.push_rules.Goals as goal
 

@@ -1,4 +1,4 @@
-use Rattle.std.proofs.Common.{◌≡◌, ◌+◌, ◌*◌, ◌≤◌, length, sym, ap, ◌∙◌, arith}
+use Rattle.std.proofs.Common.{◌≡◌, ◌+◌, ◌*◌, ◌≤◌, length, ap, ◌∙◌, arith}
 use Rattle.packing.specs.Packing.{written}
 use Rattle.column.specs.Columns.{cells, presence, seen}
 use Rattle.sample.specs.Samples.{strata, seed, bounds_of}

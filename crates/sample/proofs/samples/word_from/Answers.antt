@@ -1,4 +1,4 @@
-use Rattle.std.proofs.Common.{◌/◌, ◌%◌, ◌^◌, mod-lt, arith, pow_pos}
+use Rattle.std.proofs.Common.{◌/◌, ◌^◌, mod-lt, arith, pow_pos}
 use Rattle.packing.specs.Packing.{Below, joined}
 use Rattle.packing.proofs.Below.{below-get_d}
 use Rattle.sample.proofs.Joins.{word-whole, word_two}

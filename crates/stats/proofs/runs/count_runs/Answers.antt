@@ -1,4 +1,4 @@
-use Rattle.std.proofs.Common.{◌-◌, ◌*◌, length, refl, arith}
+use Rattle.std.proofs.Common.{◌*◌, length, refl, arith}
 use Rattle.stats.proofs.Blocking.{block-end, counted_none, counted-more, counted-all}
 use Rattle.stats.proofs.runs.count_runs.Goals as goal
 

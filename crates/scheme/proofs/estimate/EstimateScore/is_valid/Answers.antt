@@ -1,4 +1,4 @@
-use Rattle.std.proofs.Common.{◌≡◌, not, ◌&&◌, sym, ap, ◌∙◌}
+use Rattle.std.proofs.Common.{not, ◌&&◌, sym, ap, ◌∙◌}
 use lib.Ieee.{binary64, lt}
 use Rattle.std.specs.Float.{float_is_finite, is_subnormal}
 use Rattle.scheme.specs.Scores.{valid, score_valid}
