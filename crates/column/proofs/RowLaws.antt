@@ -1,6 +1,6 @@
 -- Rows from bits and cells.
 use Rattle.std.proofs.Common.{◌≡◌, ℕ, zero, suc, ◌/◌, ◌%◌, ◌^◌, ◌<◌, ◌||◌, eqb, List, [], ◌∷◌, ◌++◌, length, get_or, Some, None, sym, refl, ap, ◌∙◌, div-one, one-add, arith, shr-shr}
-use Rattle.std.specs.List.{AllByRecursion as All}
+use Rattle.std.specs.List.{AllByRecursion}
 use Rattle.std.proofs.lemmas.List.{length-map}
 use Rattle.packing.specs.Packing.{digits}
 use Rattle.column.specs.Columns.{Row, Offer, cell_of, bit_of, cells, bits, row_of, rows_of, values_of, has_blank, word_bits, offered}
@@ -92,11 +92,11 @@ rows_alike (suc n) x (u ∷ us) [] h = λ i. row-alike (x % 2) u 0 (omega arith)
 rows_alike (suc n) x (u ∷ us) (v ∷ vs) h = λ i. row-alike (x % 2) u v (omega arith) (h 0) i ∷ rows_alike n (x / 2) us vs (λ k. h (suc k)) i
 
 -- what holds of each cell, and of 0, holds of each value
-all_row : (P : ℕ → Type 0) (b w : ℕ) (rs : List Row) → P w → All P (values_of rs) → All P (values_of (row_of b w ∷ rs))
+all_row : (P : ℕ → Type 0) (b w : ℕ) (rs : List Row) → P w → AllByRecursion P (values_of rs) → AllByRecursion P (values_of (row_of b w ∷ rs))
 all_row P zero w rs p a = a
 all_row P (suc b) w rs p a = (p, a)
 
-pub all-rows : (P : ℕ → Type 0) (bs ws : List ℕ) → P 0 → All P ws → All P (values_of (rows_of bs ws))
+pub all-rows : (P : ℕ → Type 0) (bs ws : List ℕ) → P 0 → AllByRecursion P ws → AllByRecursion P (values_of (rows_of bs ws))
 all-rows P [] ws p a = tt
 all-rows P (b ∷ bs) [] p a = all_row P b 0 (rows_of bs []) p (all-rows P bs [] p a)
 all-rows P (b ∷ bs) (w ∷ ws) p a = all_row P b w (rows_of bs ws) a.0 (all-rows P bs ws p a.1)

@@ -1,6 +1,6 @@
 -- The first row outside its kind, block by block; refusals.
 use Rattle.std.proofs.Common.{◌≡◌, ℕ, zero, suc, ◌+◌, ◌-◌, ◌*◌, ◌/◌, ◌%◌, ◌^◌, ◌<◌, ◌≤◌, min, Bool, true, false, List, [], ◌∷◌, ◌++◌, length, get_or, take, drop, Some, None, Option, sym, refl, ap, ◌∙◌, inl, inr, add-zero, arith, length-drop}
-use Rattle.std.specs.List.{AllByRecursion as All}
+use Rattle.std.specs.List.{AllByRecursion}
 use Rattle.std.proofs.lemmas.Bool.{cases_lt}
 use Rattle.std.proofs.lemmas.List.{length-take-le}
 use Rattle.std.proofs.ByRecursion.{All-weaker}
@@ -34,17 +34,17 @@ stray-some k i r (Some w ∷ xs) ys e = go (in_kind k w) e (stray-some k (suc i)
     go false f ih = f
 
 -- no row is stray where each value is of the kind
-pub stray-each : (k i : ℕ) (rs : List Row) → All (λ w. in_kind k w ≡ true) (values_of rs) → stray_from k i rs ≡ None
+pub stray-each : (k i : ℕ) (rs : List Row) → AllByRecursion (λ w. in_kind k w ≡ true) (values_of rs) → stray_from k i rs ≡ None
 stray-each k i [] h = refl
 stray-each k i (None ∷ rs) h = stray-each k (suc i) rs h
 stray-each k i (Some w ∷ rs) h = ap (λ q. stray_by q i (stray_from k (suc i) rs)) h.0 ∙ stray-each k (suc i) rs h.1
 
-pub each-stray : (k i : ℕ) (rs : List Row) → stray_from k i rs ≡ None → All (λ w. in_kind k w ≡ true) (values_of rs)
+pub each-stray : (k i : ℕ) (rs : List Row) → stray_from k i rs ≡ None → AllByRecursion (λ w. in_kind k w ≡ true) (values_of rs)
 each-stray k i [] e = tt
 each-stray k i (None ∷ rs) e = each-stray k (suc i) rs e
 each-stray k i (Some w ∷ rs) e = go (in_kind k w) refl e (each-stray k (suc i) rs)
   where
-    go : (q : Bool) → in_kind k w ≡ q → stray_by q i (stray_from k (suc i) rs) ≡ None → (stray_from k (suc i) rs ≡ None → All (λ x. in_kind k x ≡ true) (values_of rs)) → (in_kind k w ≡ true) × All (λ x. in_kind k x ≡ true) (values_of rs)
+    go : (q : Bool) → in_kind k w ≡ q → stray_by q i (stray_from k (suc i) rs) ≡ None → (stray_from k (suc i) rs ≡ None → AllByRecursion (λ x. in_kind k x ≡ true) (values_of rs)) → (in_kind k w ≡ true) × AllByRecursion (λ x. in_kind k x ≡ true) (values_of rs)
     go true g f ih = (g, ih f)
     go false g f ih = apart f
 

@@ -1,7 +1,7 @@
 -- Presence words: their bits by rows, and rows by blocks of 64.
 use Rattle.std.proofs.Common.{◌≡◌, ℕ, zero, suc, ◌+◌, ◌-◌, ◌*◌, ◌/◌, ◌%◌, ◌^◌, ◌<◌, ◌≤◌, min, eqb, ltb, ◌⊎◌, List, [], ◌∷◌, ◌++◌, length, get_or, take, drop, None, sym, ap, ◌∙◌, inl, inr, mul_assoc, pow-suc, zero-add, zero-mul, mul-one, div-one, one-add, arith, length-drop, length-take, shr-shr}
 use native.Mathlib.Nat.{zero-div, div-eq_of_lt}
-use Rattle.std.specs.List.{AllByRecursion as All}
+use Rattle.std.specs.List.{AllByRecursion}
 use Rattle.std.proofs.lemmas.Bool.{cases_lt, lt-ltb, le-ltb, eq-eqb, ne_eqb}
 use Rattle.std.proofs.lemmas.Nat.{div-mul-add, mod_below, pow_pos, pow-add, shr_split}
 use Rattle.std.proofs.lemmas.List.{take-append-drop, length-take-le, drop-drop, drop_more, drop_all, take_all, nil_from_length}
@@ -13,7 +13,7 @@ use Rattle.column.proofs.RowLaws.{length_digits, length-rows, digit_at, row_at, 
 
 -- each word is a 64-bit word
 abbrev pub Words : List ℕ → Type 0
-Words ws = All (λ w. w < 2 ^ 64) ws
+Words ws = AllByRecursion (λ w. w < 2 ^ 64) ws
 
 -- ---- one bit
 

@@ -1,6 +1,6 @@
 -- Rows and their codes, one at a time.
 use Rattle.std.proofs.Common.{◌≡◌, ℕ, zero, suc, ◌+◌, ◌^◌, ◌<◌, ◌≤◌, true, false, List, [], ◌∷◌, ◌++◌, map, length, get_or, take, drop, set, Some, None, sym, refl, ap, ◌∙◌, subst, arith}
-use Rattle.std.specs.List.{AllByRecursion as All}
+use Rattle.std.specs.List.{AllByRecursion}
 use Rattle.std.proofs.lemmas.List.{append_assoc, append-nil, drop_all, drop_more, take_all, take_more_set}
 use Rattle.std.proofs.lemmas.Bool.{true≢false, false≢true}
 use Rattle.column.specs.Columns.{Row, Offer, cell_of, cells, row_of, values_of, values, cleaned, offered, word_bits}
@@ -56,7 +56,7 @@ value-at o i l e = offer-at o i l ∙ row-value _ _ (ap is_value (sym (offer-at 
 pub blank-at : (o : Offer) (i : ℕ) → i < length o.cells → false ≡ is_value (get_or (offered o) i None) → get_or (offered o) i None ≡ None
 blank-at o i l e = offer-at o i l ∙ row-blank _ _ (ap is_value (sym (offer-at o i l)) ∙ sym e)
 
-all-at : (P : ℕ → Type 0) (rs : List Row) (i w : ℕ) → get_or rs i None ≡ Some w → All P (values_of rs) → P w
+all-at : (P : ℕ → Type 0) (rs : List Row) (i w : ℕ) → get_or rs i None ≡ Some w → AllByRecursion P (values_of rs) → P w
 all-at P [] i w e a = absurd (let z : ◌≡◌ {A = ℕ} 0 1 = cc in omega arith)
 all-at P (None ∷ rs) zero w e a = absurd (let z : ◌≡◌ {A = ℕ} 0 1 = cc in omega arith)
 all-at P (None ∷ rs) (suc i) w e a = all-at P rs i w e a

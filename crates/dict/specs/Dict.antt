@@ -1,6 +1,6 @@
 -- Dict, scheme 16: the distinct values, and for each row the place of its value among them.
 use Rattle.std.specs.Prelude.{ℕ, suc, ◌+◌, ◌-◌, ◌*◌, ◌/◌, ◌<◌, min, Bool, true, false, ◌||◌, List, [], ◌∷◌, map, length, Some, None, Ok, Option, Result, ◌==◌, nat_lt, slice_index}
-use Rattle.std.specs.List.{AllByRecursion as All}
+use Rattle.std.specs.List.{AllByRecursion}
 use Rattle.packing.specs.Packing.{bit_length}
 use Rattle.column.specs.Kinds.{width}
 use Rattle.column.specs.Columns.{Row, Column, values, values_of}
@@ -49,7 +49,7 @@ place_of v (w ∷ ws) = place_by (v == w) (place_of v ws)
 
 -- each of these values stands in the list
 abbrev pub Known : List ℕ → List ℕ → Type 0
-Known ds vs = All (λ v. place_of v ds < length ds) vs
+Known ds vs = AllByRecursion (λ v. place_of v ds < length ds) vs
 
 abbrev pub code_row : List ℕ → Row → Row
 code_row ds None = None

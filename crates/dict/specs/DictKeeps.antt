@@ -1,7 +1,7 @@
 -- The parts of a column join back to it.
 use Rattle.std.specs.Prelude.{◌≡◌, ℕ, suc, ◌-◌, ◌<◌, ◌≤◌, Bool, true, false, ◌⊎◌, List, [], ◌∷◌, map, length, Some, None, ◌==◌, nat_lt, slice_index, refl}
 use Rattle.std.proofs.Common.{zero-le, suc-le-suc, le_refl, arith, sym, ap, ◌∙◌, inl, inr}
-use Rattle.std.specs.List.{AllByRecursion as All}
+use Rattle.std.specs.List.{AllByRecursion}
 use Rattle.std.proofs.ByRecursion.{All-weaker}
 use Rattle.std.proofs.lemmas.List.{length-map}
 use Rattle.std.proofs.lemmas.Bool.{eqb-true, eqb-false, eq-eqb}
@@ -30,7 +30,7 @@ found (w ∷ ws) v m = go (v == w) refl m (found ws v)
     go false e (inl g) ih = absurd (eqb-false v w e g)
     go false e (inr g) ih = (suc-le-suc (ih g).0, (ih g).1)
 
-pub all_found : (c : Column) → All (Found (distinct_values c)) (values c)
+pub all_found : (c : Column) → AllByRecursion (Found (distinct_values c)) (values c)
 all_found c = All-weaker (λ v. Mem v (distinct_values c)) (Found (distinct_values c)) (found (distinct_values c)) (values c) (tally-mem c.kind (values c))
 
 -- ---- how many distinct values there are
@@ -51,12 +51,12 @@ tally-short k (v ∷ vs) = let t = counted-short k v (tally k vs) in let s = tal
 
 -- ---- codes
 
-code-back : (ds : List ℕ) (rs : List Row) → All (Found ds) (values_of rs) → decoded ds (map (code_row ds) rs) ≡ rs
+code-back : (ds : List ℕ) (rs : List Row) → AllByRecursion (Found ds) (values_of rs) → decoded ds (map (code_row ds) rs) ≡ rs
 code-back ds [] h = refl
 code-back ds (None ∷ rs) h = ap (λ (xs : List Row). None ∷ xs) (code-back ds rs h)
 code-back ds (Some v ∷ rs) h = λ i. Some (h.0.1 i) ∷ code-back ds rs h.1 i
 
-codes_all : (P : ℕ → Type 0) (ds : List ℕ) → ((x : ℕ) → x < length ds → P x) → (rs : List Row) → All (Found ds) (values_of rs) → All P (values_of (map (code_row ds) rs))
+codes_all : (P : ℕ → Type 0) (ds : List ℕ) → ((x : ℕ) → x < length ds → P x) → (rs : List Row) → AllByRecursion (Found ds) (values_of rs) → AllByRecursion P (values_of (map (code_row ds) rs))
 codes_all P ds f [] h = tt
 codes_all P ds f (None ∷ rs) h = codes_all P ds f rs h
 codes_all P ds f (Some v ∷ rs) h = (f (place_of v ds) h.0.0, codes_all P ds f rs h.1)

@@ -1,6 +1,6 @@
 -- Distances from the least value, row by row, and values from them again.
 use Rattle.std.proofs.Common.{◌≡◌, ℕ, zero, suc, ◌+◌, ◌-◌, ◌%◌, ◌^◌, ◌<◌, ◌≤◌, Bool, true, false, cond, List, [], ◌∷◌, ◌++◌, map, length, get_or, take, drop, set, Some, None, sym, ap, ◌∙◌, subst, append-nil, arith}
-use Rattle.std.specs.List.{AllByRecursion as All}
+use Rattle.std.specs.List.{AllByRecursion}
 use Rattle.std.proofs.lemmas.List.Edits.{map_over_more}
 use Rattle.std.proofs.lemmas.List.{append_assoc, drop_all, drop_more, get_or_default, take_all, take_more_set}
 use Rattle.packing.specs.Packing.{joined, Below}
@@ -20,7 +20,7 @@ subtracted : (s : Bool) (m v : ℕ) → m < 2 ^ 64 → v < 2 ^ 64 → key_by s m
 subtracted true m v a b h = omega arith
 subtracted false m v a b h = omega arith
 
-value-at : (P : ℕ → Type 0) (rs : List Row) (i w : ℕ) → All P (values_of rs) → get_or rs i None ≡ Some w → P w
+value-at : (P : ℕ → Type 0) (rs : List Row) (i w : ℕ) → AllByRecursion P (values_of rs) → get_or rs i None ≡ Some w → P w
 value-at P [] i w a e = absurd (let z : ◌≡◌ {A = ℕ} 0 1 = cc in omega arith)
 value-at P (None ∷ rs) zero w a e = absurd (let z : ◌≡◌ {A = ℕ} 0 1 = cc in omega arith)
 value-at P (Some v ∷ rs) zero w a e = let g : v ≡ w = cc in subst P g a.0

@@ -1,7 +1,7 @@
 -- Frame keeps the laws of schemes.
 use Rattle.std.specs.Prelude.{◌≡◌, ℕ, suc, ◌+◌, ◌-◌, ◌%◌, ◌^◌, ◌<◌, ◌≤◌, min, Bool, true, false, cond, List, [], ◌∷◌, ◌++◌, map, length, Some, None, ◌==◌, nat_eq, slice_index, refl}
 use Rattle.std.proofs.Common.{zero-le, arith, pow_pos, sym, ap, ◌∙◌, subst, length-append}
-use Rattle.std.specs.List.{AllByRecursion as All}
+use Rattle.std.specs.List.{AllByRecursion}
 use Rattle.std.proofs.lemmas.List.{length-map}
 use Rattle.std.proofs.lemmas.Bool.{ne_eqb, eqb-true}
 use Rattle.packing.specs.Packing.{packed_len, packed, unpacked, bit_length, Below}
@@ -26,7 +26,7 @@ pub bits-few : (c : Column) → column_bits c ≤ 64
 bits-few c = let e = bits-leading 64 (max_minus_min c.kind (stats false c)) in omega arith
 
 -- a value that stands in the list has what all have
-standing : (P : ℕ → Type 0) (v : ℕ) (ws : List ℕ) → All P ws → 1 ≤ occurs v ws → P v
+standing : (P : ℕ → Type 0) (v : ℕ) (ws : List ℕ) → AllByRecursion P ws → 1 ≤ occurs v ws → P v
 standing P v [] a h = absurd (omega arith)
 standing P v (w ∷ ws) a h = go (v == w) refl h (standing P v ws a.1)
   where
@@ -46,9 +46,9 @@ pub record Framed (k m b v : ℕ) : Type 0 where
 
 pub record Based (k m b : ℕ) (vs : List ℕ) : Type 0 where
   pub inside : InKind k m
-  pub all : All (Framed k m b) vs
+  pub all : AllByRecursion (Framed k m b) vs
 
-all-framed : (k m g b : ℕ) (vs : List ℕ) → key k g - key k m < 2 ^ b → All (InKind k) vs → All (λ v. (key k m ≤ key k v) × (key k v ≤ key k g)) vs → All (Framed k m b) vs
+all-framed : (k m g b : ℕ) (vs : List ℕ) → key k g - key k m < 2 ^ b → AllByRecursion (InKind k) vs → AllByRecursion (λ v. (key k m ≤ key k v) × (key k v ≤ key k g)) vs → AllByRecursion (Framed k m b) vs
 all-framed k m g b [] h a e = tt
 all-framed k m g b (v ∷ vs) h a e =
     let l = e.0.0 in
@@ -58,7 +58,7 @@ all-framed k m g b (v ∷ vs) h a e =
 pub based : (c : Column) → Clean c → Based c.kind (base c.kind (values c)) (column_bits c) (values c)
 based c h = go (values c) refl (clean-values c h)
   where
-    go : (vs : List ℕ) → values c ≡ vs → All (InKind c.kind) vs → Based c.kind (base c.kind vs) (column_bits c) vs
+    go : (vs : List ℕ) → values c ≡ vs → AllByRecursion (InKind c.kind) vs → Based c.kind (base c.kind vs) (column_bits c) vs
     go [] e a = record { inside = zero_in c.kind (clean-kind c h); all = tt }
     go (v ∷ vs) e a =
         let t = stats false c in
@@ -78,7 +78,7 @@ based c h = go (values c) refl (clean-values c h)
         let all = all-framed c.kind low high (column_bits c) (values c) near among ends.between in
         record {
           inside = subst (InKind c.kind) m low_in;
-          all = subst (λ x. All (Framed c.kind x (column_bits c)) (v ∷ vs)) m (subst (All (Framed c.kind low (column_bits c))) e all);
+          all = subst (λ x. AllByRecursion (Framed c.kind x (column_bits c)) (v ∷ vs)) m (subst (AllByRecursion (Framed c.kind low (column_bits c))) e all);
         }
 
 -- ---- distances, and values again
@@ -87,12 +87,12 @@ moved : (s : Bool) (m v : ℕ) → m < 2 ^ 64 → v < 2 ^ 64 → key_by s m ≤ 
 moved true m v a b h = omega arith
 moved false m v a b h = omega arith
 
-pub below-over : (k m b : ℕ) (rs : List Row) → All (Framed k m b) (values_of rs) → Below (2 ^ b) (map (over_base k m) rs)
+pub below-over : (k m b : ℕ) (rs : List Row) → AllByRecursion (Framed k m b) (values_of rs) → Below (2 ^ b) (map (over_base k m) rs)
 below-over k m b [] h = tt
 below-over k m b (None ∷ rs) h = (pow_pos b, below-over k m b rs h)
 below-over k m b (Some v ∷ rs) h = (h.0.near, below-over k m b rs h.1)
 
-rows-again : (k m b : ℕ) (rs : List Row) → m < 2 ^ 64 → All (Framed k m b) (values_of rs) → rows_of (bits rs) (added_to m (map (over_base k m) rs)) ≡ rs
+rows-again : (k m b : ℕ) (rs : List Row) → m < 2 ^ 64 → AllByRecursion (Framed k m b) (values_of rs) → rows_of (bits rs) (added_to m (map (over_base k m) rs)) ≡ rs
 rows-again k m b [] w h = refl
 rows-again k m b (None ∷ rs) w h = ap (λ (xs : List Row). None ∷ xs) (rows-again k m b rs w h)
 rows-again k m b (Some v ∷ rs) w h =

@@ -1,6 +1,6 @@
 -- What is known of the bank's schemes is known of the one chosen, and what is known of refusals of the one that ends the choice.
 use Rattle.std.proofs.Common.{◌≡◌, ℕ, zero, suc, ◌<◌, Bool, true, false, not, ◌&&◌, List, [], ◌∷◌, length, Some, None, Ok, Err, Option, Result, refl, ap, ◌∙◌, subst, arith}
-use Rattle.std.specs.List.{AllByRecursion as All}
+use Rattle.std.specs.List.{AllByRecursion}
 use Rattle.std.proofs.lemmas.Bool.{and_parts}
 use Rattle.column.specs.declared.refusals.Refusal.{Refusal}
 use Rattle.column.specs.Columns.{Column}
@@ -72,7 +72,7 @@ module _ (P : Meaning → Type 0) (Q : Refusal → Type 0) where
   ask-ok m (Verdict (Ratio x)) b k p h r = r (bested m (FiniteCompression x) b) (bested-ok m (FiniteCompression x) b p h)
   ask-ok m (Deferred d) b k p h r = wait-ok m d (k b) p (r b h)
 
-  asked-ok : (c : Column) (t : Stats) (h : History) (f : Bool) (ms : List Meaning) → All P ms → (b : Best) → BestOk b → AskedOk (asked c t h f ms b)
+  asked-ok : (c : Column) (t : Stats) (h : History) (f : Bool) (ms : List Meaning) → AllByRecursion P ms → (b : Best) → BestOk b → AskedOk (asked c t h f ms b)
   unfolding asked
   asked-ok c t h f [] a b g = (g, tt)
   asked-ok c t h f (m ∷ ms) a b g = ask-ok m (m.answer c t h f) b (asked c t h f ms) a.0 g (λ y w. asked-ok c t h f ms a.1 y w)
@@ -102,7 +102,7 @@ module _ (P : Meaning → Type 0) (Q : Refusal → Type 0) where
   by-ok F L (waiting b ds) g = decided-ok F L ds g.1 b g.0
 
   pub choice-ok : (ms : List Meaning) (d : Source) (below : Below) (c : Column) (h : History) (f : Bool)
-      → All P (eligible ms c.kind h) → LateOk (late d below c (stats_at ms c h) h f) → ChosenOk (choice ms d below c h f)
+      → AllByRecursion P (eligible ms c.kind h) → LateOk (late d below c (stats_at ms c h) h f) → ChosenOk (choice ms d below c h f)
   unfolding choice
   choice-ok ms d below c h f a L =
       by-ok (late d below c (stats_at ms c h) h f) L (asked c (stats_at ms c h) h f (eligible ms c.kind h) None)
@@ -113,22 +113,22 @@ module _ (P : Meaning → Type 0) (Q : Refusal → Type 0) where
 abbrev Known : List Meaning → Meaning → Type 0
 Known ms m = (i : ℕ) × ((i < length ms) × (at ms i ≡ m))
 
-all-at : (P : Meaning → Type 0) (ms : List Meaning) → ((i : ℕ) → i < length ms → P (at ms i)) → All P ms
+all-at : (P : Meaning → Type 0) (ms : List Meaning) → ((i : ℕ) → i < length ms → P (at ms i)) → AllByRecursion P ms
 all-at P [] f = tt
 all-at P (m ∷ ms) f = (f zero (omega arith), all-at P ms (λ i l. f (suc i) (omega arith)))
 
-keep-in : (ms : List Meaning) (k : ℕ) (m : Meaning) (rest : List Meaning) (b t : Bool) → (m.takes k && b) ≡ t → Known ms m → All (In ms k) rest → All (In ms k) (keep_if t m rest)
+keep-in : (ms : List Meaning) (k : ℕ) (m : Meaning) (rest : List Meaning) (b t : Bool) → (m.takes k && b) ≡ t → Known ms m → AllByRecursion (In ms k) rest → AllByRecursion (In ms k) (keep_if t m rest)
 keep-in ms k m rest b true e p a =
     let t = (and_parts (m.takes k) b e).0 in
     ((p.0, (record { within = p.1.0; takes = ap (λ (y : Meaning). y.takes k) p.1.1 ∙ t }, p.1.1)), a)
 keep-in ms k m rest b false e p a = a
 
-eligible-in : (ms : List Meaning) (k : ℕ) (h : History) (rest : List Meaning) → All (Known ms) rest → All (In ms k) (eligible_of ms k h rest)
+eligible-in : (ms : List Meaning) (k : ℕ) (h : History) (rest : List Meaning) → AllByRecursion (Known ms) rest → AllByRecursion (In ms k) (eligible_of ms k h rest)
 eligible-in ms k h [] a = tt
 eligible-in ms k h (m ∷ rest) a =
     keep-in ms k m (eligible_of ms k h rest) (not (excluded ms m h)) (competes ms k h m) refl a.0 (eligible-in ms k h rest a.1)
 
-pub all-eligible : (ms : List Meaning) (k : ℕ) (h : History) → All (In ms k) (eligible ms k h)
+pub all-eligible : (ms : List Meaning) (k : ℕ) (h : History) → AllByRecursion (In ms k) (eligible ms k h)
 all-eligible ms k h = eligible-in ms k h ms (all-at (Known ms) ms (λ i l. (i, (l, refl))))
 
 -- ---- who wins is a scheme of the bank that takes the kind

@@ -1,6 +1,6 @@
 -- What the levels make holds the column and is no heavier than plain.
 use Rattle.std.proofs.Common.{◌≡◌, ℕ, zero, suc, ◌≤◌, Bool, true, false, not, eqb, ltb, List, [], ◌∷◌, ◌++◌, length, Some, None, Ok, Err, Result, sym, refl, subst, inl, inr, le_refl, le_of_lt, arith}
-use Rattle.std.specs.List.{AllByRecursion as All}
+use Rattle.std.specs.List.{AllByRecursion}
 use Rattle.std.proofs.lemmas.Bool.{ltb-true, eqb-true, and_parts}
 use Rattle.column.specs.Columns.{Row, Column, Clean, values}
 use Rattle.node.specs.Nodes.{Node, weight, plain_node, constant_node, OneValue, Bare}
@@ -18,7 +18,7 @@ use Rattle.holds.proofs.Sizes.{node-sized, node-bytes, places-suc, kids-clean, k
 
 -- ---- one value
 
-equal-all : (v : ℕ) (vs : List ℕ) → all_equal_to v vs ≡ true → All (λ w. w ≡ v) vs
+equal-all : (v : ℕ) (vs : List ℕ) → all_equal_to v vs ≡ true → AllByRecursion (λ w. w ≡ v) vs
 equal-all v [] e = tt
 equal-all v (w ∷ ws) e = let p = and_parts (eqb v w) (all_equal_to v ws) e in (sym (eqb-true v w p.0), equal-all v ws p.1)
 

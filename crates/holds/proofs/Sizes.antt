@@ -1,6 +1,6 @@
 -- A node that holds a clean column fits its bytes and is as small as its levels allow.
 use Rattle.std.proofs.Common.{◌≡◌, ℕ, zero, suc, ◌+◌, ◌*◌, ◌<◌, ◌≤◌, List, [], ◌∷◌, length, Ok, Result, sym, refl, ap, subst, inl, inr, zero-lt-suc, arith}
-use Rattle.std.specs.List.{AllByRecursion as All}
+use Rattle.std.specs.List.{AllByRecursion}
 use Rattle.std.proofs.lemmas.Bool.{leb-true}
 use Rattle.packing.specs.Packing.{Below}
 use Rattle.packing.proofs.Below.{below-append}
@@ -89,7 +89,7 @@ bare-sized l c n cl (inr (inr e)) =
 
 -- ---- a node over sized children
 
-over_sized : (l : ℕ) → suc l ≤ 9 → (n : Node) → FitHead (head_of n) → length (payload_of n) ≤ 9 * 131072 + 16 → All (Sized l) (children_of n) → Sized (suc l) n
+over_sized : (l : ℕ) → suc l ≤ 9 → (n : Node) → FitHead (head_of n) → length (payload_of n) ≤ 9 * 131072 + 16 → AllByRecursion (Sized l) (children_of n) → Sized (suc l) n
 over_sized l b (leaf h p) f s k =
     let o = places-suc l in
     let m = places-most (suc l) b in
@@ -130,7 +130,7 @@ each-length P (c ∷ cs) [] e = absurd e
 each-length P (c ∷ cs) (n ∷ ns) e = ap suc (each-length P cs ns e.1)
 
 pub each_all : (P : Column → Node → Type 0) (R : Node → Type 0) → ((c : Column) (n : Node) → Clean c → P c n → R n)
-    → (cs : List Column) (ns : List Node) → AllClean cs → Each P cs ns → All R ns
+    → (cs : List Column) (ns : List Node) → AllClean cs → Each P cs ns → AllByRecursion R ns
 each_all P R f [] [] a e = tt
 each_all P R f [] (n ∷ ns) a e = absurd e
 each_all P R f (c ∷ cs) [] a e = absurd e
@@ -169,7 +169,7 @@ bare-bytes c n cl (inr (inl e)) =
 bare-bytes c n cl (inr (inr e)) =
     subst (λ m. Below 256 (flat m)) (sym e.1) (below-flat (blank_node c) (bare-fit c (blank_node c) cl (inr (inr (e.0, refl)))) tt tt)
 
-flats-bytes : (ns : List Node) → All (λ n. Below 256 (flat n)) ns → Below 256 (flats ns)
+flats-bytes : (ns : List Node) → AllByRecursion (λ n. Below 256 (flat n)) ns → Below 256 (flats ns)
 flats-bytes [] a = tt
 flats-bytes (n ∷ ns) a = below-append 256 (flat n) (flats ns) a.0 (flats-bytes ns a.1)
 

@@ -1,6 +1,6 @@
 -- What the levels make stands.
 use Rattle.std.proofs.Common.{◌≡◌, ℕ, zero, suc, ◌≤◌, Bool, true, false, ltb, List, [], ◌∷◌, ◌++◌, length, Some, None, Ok, Err, Result, sym, refl, ap, ◌∙◌, subst, suc-le-suc, zero-le}
-use Rattle.std.specs.List.{AllByRecursion as All}
+use Rattle.std.specs.List.{AllByRecursion}
 use Rattle.std.proofs.ByRecursion.{All-weaker}
 use Rattle.std.proofs.lemmas.Bool.{ltb-true, ltb-false}
 use Rattle.column.specs.Columns.{Row, Column, values}
@@ -18,15 +18,15 @@ use Rattle.levels.specs.Levels.{Bound, Below, Kids, kid_step, kids_below, scheme
 use Rattle.levels.specs.Standing.{Opening, Keep, verdict_by, verdict_at, answer_at, competitors, WinsAt, SomeScheme, Competed, Stands, on_ground, no_row, no_value, one_value, one_value_plain, no_scheme, none_counts, not_lighter, winner_stands, StandAll, none_left, one_more, LevelsStand}
 use Rattle.levels.proofs.WinnerLaws.{Outcome, Told, Known, mark-free, chosen-ok}
 
-all-keep_if : (P : Meaning → Type 0) (b : Bool) (m : Meaning) (ms : List Meaning) → P m → All P ms → All P (keep_if b m ms)
+all-keep_if : (P : Meaning → Type 0) (b : Bool) (m : Meaning) (ms : List Meaning) → P m → AllByRecursion P ms → AllByRecursion P (keep_if b m ms)
 all-keep_if P true m ms p q = (p, q)
 all-keep_if P false m ms p q = q
 
-pub all-eligible : (P : Meaning → Type 0) (bank : List Meaning) (k : ℕ) (h : History) (ms : List Meaning) → All P ms → All P (eligible_of bank k h ms)
+pub all-eligible : (P : Meaning → Type 0) (bank : List Meaning) (k : ℕ) (h : History) (ms : List Meaning) → AllByRecursion P ms → AllByRecursion P (eligible_of bank k h ms)
 all-eligible P bank k h [] p = tt
 all-eligible P bank k h (m ∷ ms) p = all-keep_if P (competes bank k h m) m (eligible_of bank k h ms) p.0 (all-eligible P bank k h ms p.1)
 
-pub keep_all : (ms : List Meaning) → AllKeep ms → All Keeps ms
+pub keep_all : (ms : List Meaning) → AllKeep ms → AllByRecursion Keeps ms
 keep_all [] k = tt
 keep_all (m ∷ ms) k = (k.0, keep_all ms k.1)
 

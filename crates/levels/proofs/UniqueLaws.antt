@@ -1,6 +1,6 @@
 -- No other node stands for a column that is bound.
 use Rattle.std.proofs.Common.{◌≡◌, ℕ, suc, ◌<◌, ◌≤◌, Bool, true, false, not, ◌⊎◌, List, [], ◌∷◌, ◌++◌, length, Some, None, Ok, Err, sym, refl, ap, ◌∙◌, subst, inl, inr, suc-le-suc, zero-le, arith}
-use Rattle.std.specs.List.{AllByRecursion as All}
+use Rattle.std.specs.List.{AllByRecursion}
 use Rattle.std.proofs.lemmas.Bool.{lt-ltb, le-ltb, and_parts, both_ways}
 use Rattle.column.specs.declared.refusals.Refusal.{Refusal}
 use Rattle.column.specs.Columns.{Row, Column, values}
@@ -46,7 +46,7 @@ abbrev In : Meaning → List Meaning → Type 0
 In m [] = ⊥
 In m (x ∷ xs) = (m ≡ x) ⊎ In m xs
 
-all_in : (P : Meaning → Type 0) (m : Meaning) (xs : List Meaning) → All P xs → In m xs → P m
+all_in : (P : Meaning → Type 0) (m : Meaning) (xs : List Meaning) → AllByRecursion P xs → In m xs → P m
 all_in P m [] a i = absurd i
 all_in P m (x ∷ xs) a (inl e) = subst P (sym e) a.0
 all_in P m (x ∷ xs) a (inr i) = all_in P m xs a.1 i
@@ -102,10 +102,10 @@ module _ (V : Meaning → EstimateVerdict) where
           (all_in (λ z. Lost (V m) (V z)) u x.before x.ahead p.0)
           (all_in (λ z. LostOrSame (V u) (V z)) m y.after y.behind p.1))
 
-  pub none-wins : (ms : List Meaning) (m : Meaning) → Wins V ms m → All (Uncounted V) ms → ⊥
+  pub none-wins : (ms : List Meaning) (m : Meaning) → Wins V ms m → AllByRecursion (Uncounted V) ms → ⊥
   none-wins ms m x a =
       both_ways (counts (V m))
-      (all_in (Uncounted V) m (x.before ++ (m ∷ x.after)) (subst (All (Uncounted V)) x.split a) (in-middle x.before m x.after))
+      (all_in (Uncounted V) m (x.before ++ (m ∷ x.after)) (subst (AllByRecursion (Uncounted V)) x.split a) (in-middle x.before m x.after))
       x.valued
 
 -- ---- bound or refused

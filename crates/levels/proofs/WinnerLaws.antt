@@ -1,7 +1,7 @@
 -- The choice ends with the winner.
 use Rattle.std.proofs.Common.{◌≡◌, Bool, true, false, ◌&&◌, ◌⊎◌, List, [], ◌∷◌, ◌++◌, map, Some, None, Ok, Err, Result, sym, refl, ap, ◌∙◌, subst, inl, inr, true≢false, append_assoc, append-nil}
 use lib.Ieee.{Float}
-use Rattle.std.specs.List.{AllByRecursion as All}
+use Rattle.std.specs.List.{AllByRecursion}
 use Rattle.std.proofs.ByRecursion.{All-weaker, All-append}
 use Rattle.std.proofs.lemmas.Bool.{and_parts, and_from, and_right}
 use Rattle.column.specs.declared.refusals.Refusal.{Refusal}
@@ -20,7 +20,7 @@ use Rattle.scheme.proofs.Ratios.{ratio-laws}
 use Rattle.levels.specs.Choice.{Best, mark_of, is_better, bested_by, bested, Asked, ended, waiting, wait, ask_step, asked, Late, Chosen, winner, late_step, decided, chosen_by}
 use Rattle.levels.specs.Standing.{counts, beats, equals, or_skip, Lost, Wins, immediate_step, deferred_step, immediates, deferreds, ranked}
 
-all_any : {X : Type 0} (P : X → Type 0) → ((x : X) → P x) → (xs : List X) → All P xs
+all_any : {X : Type 0} (P : X → Type 0) → ((x : X) → P x) → (xs : List X) → AllByRecursion P xs
 all_any P g [] = tt
 all_any P g (x ∷ xs) = (g x, all_any P g xs)
 
@@ -80,7 +80,7 @@ module _ (V : Meaning → EstimateVerdict) where
   HeldBy ps m ZeroBytes = ⊥
 
   abbrev Holder : List Meaning → Best → Type 0
-  Holder ps None = All Uncounted ps
+  Holder ps None = AllByRecursion Uncounted ps
   Holder ps (Some b) = HeldBy ps b.0 b.1
 
   -- one more competitor behind
@@ -106,24 +106,24 @@ module _ (V : Meaning → EstimateVerdict) where
   hold-skip ps (Some b) u e h = held-skip ps b.0 b.1 u e h
 
   -- all before lose to the new best
-  all-lost : (ps : List Meaning) (m : Meaning) (x y : Float) → valid x ≡ true → above x y ≡ true → Wins V ps m → V m ≡ Ratio y → All (λ u. Lost (Ratio x) (V u)) ps
+  all-lost : (ps : List Meaning) (m : Meaning) (x y : Float) → valid x ≡ true → above x y ≡ true → Wins V ps m → V m ≡ Ratio y → AllByRecursion (λ u. Lost (Ratio x) (V u)) ps
   all-lost ps m x y p e w g =
       let vy = valid-of m y g w.valued in
-      subst (All (λ u. Lost (Ratio x) (V u))) (sym w.split)
+      subst (AllByRecursion (λ u. Lost (Ratio x) (V u))) (sym w.split)
       (All-append (λ u. Lost (Ratio x) (V u)) w.before (m ∷ w.after)
       (All-weaker (λ u. Lost (V m) (V u)) (λ u. Lost (Ratio x) (V u)) (λ u l. lost-up x y (V u) p vy e (subst (λ v. Lost v (V u)) g l)) w.before w.ahead) (
         subst (λ v. Lost (Ratio x) v) (sym g) (inr (and_from (valid x) (above x y) p e)),
         All-weaker (λ u. LostOrSame (V m) (V u)) (λ u. Lost (Ratio x) (V u)) (λ u l. level-up x y (V u) p vy e (subst (λ v. LostOrSame v (V u)) g l)) w.after w.behind,
       ))
 
-  new-best : (ps : List Meaning) (u : Meaning) (x : Float) → V u ≡ Ratio x → valid x ≡ true → All (λ z. Lost (Ratio x) (V z)) ps → HeldBy (ps ++ (u ∷ [])) u (FiniteCompression x)
+  new-best : (ps : List Meaning) (u : Meaning) (x : Float) → V u ≡ Ratio x → valid x ≡ true → AllByRecursion (λ z. Lost (Ratio x) (V z)) ps → HeldBy (ps ++ (u ∷ [])) u (FiniteCompression x)
   new-best ps u x g p l = (
     record {
       before = ps;
       after = [];
       split = refl;
       valued = subst (λ v. counts v ≡ true) (sym g) p;
-      ahead = subst (λ v. All (λ z. Lost v (V z)) ps) (sym g) l;
+      ahead = subst (λ v. AllByRecursion (λ z. Lost v (V z)) ps) (sym g) l;
       behind = tt;
     },
     g,
@@ -148,23 +148,23 @@ module _ (V : Meaning → EstimateVerdict) where
   hold-ratio ps None u x false g e h = hold-skip ps None u (subst (λ v. counts v ≡ false) (sym g) e) h
   hold-ratio ps (Some b) u x q g e h = held-ratio ps b.0 b.1 u x q g e h
 
-  tame-snoc : (ps : List Meaning) (u : Meaning) (v : EstimateVerdict) → V u ≡ v → beats AlwaysUse v ≡ true → All Tame ps → All Tame (ps ++ (u ∷ []))
+  tame-snoc : (ps : List Meaning) (u : Meaning) (v : EstimateVerdict) → V u ≡ v → beats AlwaysUse v ≡ true → AllByRecursion Tame ps → AllByRecursion Tame (ps ++ (u ∷ []))
   tame-snoc ps u v g e t = All-append Tame ps (u ∷ []) t (subst (λ w. beats AlwaysUse w ≡ true) (sym g) e, tt)
 
   -- AlwaysUse wins over what came before, and over all that follows
-  wins-always : (ps : List Meaning) (u : Meaning) (rest : List Meaning) → V u ≡ AlwaysUse → All Tame ps → Wins V (ps ++ (u ∷ rest)) u
+  wins-always : (ps : List Meaning) (u : Meaning) (rest : List Meaning) → V u ≡ AlwaysUse → AllByRecursion Tame ps → Wins V (ps ++ (u ∷ rest)) u
   wins-always ps u rest g t = record {
     before = ps;
     after = rest;
     split = refl;
     valued = subst (λ v. counts v ≡ true) (sym g) refl;
-    ahead = subst (λ v. All (λ z. Lost v (V z)) ps) (sym g) (All-weaker Tame (λ z. Lost AlwaysUse (V z)) (λ z e. inr e) ps t);
-    behind = subst (λ v. All (λ z. LostOrSame v (V z)) rest) (sym g) (all_any (λ z. LostOrSame AlwaysUse (V z)) (λ z. behind-always (V z)) rest);
+    ahead = subst (λ v. AllByRecursion (λ z. Lost v (V z)) ps) (sym g) (All-weaker Tame (λ z. Lost AlwaysUse (V z)) (λ z e. inr e) ps t);
+    behind = subst (λ v. AllByRecursion (λ z. LostOrSame v (V z)) rest) (sym g) (all_any (λ z. LostOrSame AlwaysUse (V z)) (λ z. behind-always (V z)) rest);
   }
 
   -- ---- how a choice ends, over all competitors in their order
   abbrev pub Outcome : List Meaning → Chosen → Type 0
-  Outcome L (Ok None) = All Uncounted L
+  Outcome L (Ok None) = AllByRecursion Uncounted L
   Outcome L (Ok (Some m)) = Wins V L m
   Outcome L (Err e) = Unit {0}
 
@@ -203,21 +203,21 @@ module _ (c : Column) (t : Stats) (h : History) (f : Bool) (V : Meaning → Esti
   heads ds = map (λ d. d.0) ds
 
   abbrev AllTold : List (Meaning × DeferredEstimate) → Type 0
-  AllTold ds = All (λ d. Told d.0 (Deferred d.1)) ds
+  AllTold ds = AllByRecursion (λ d. Told d.0 (Deferred d.1)) ds
 
   -- the competitors in L answered at once, those in dl wait
   abbrev AskedOk : List Meaning → List Meaning → Asked → Type 0
-  AskedOk L dl (ended m) = (xs : List Meaning) × (ys : List Meaning) × (L ≡ xs ++ (m ∷ ys)) × (V m ≡ AlwaysUse) × All (Tame V) xs
-  AskedOk L dl (waiting b ds) = Holder V L b × All (Tame V) L × (heads ds ≡ dl) × AllTold ds
+  AskedOk L dl (ended m) = (xs : List Meaning) × (ys : List Meaning) × (L ≡ xs ++ (m ∷ ys)) × (V m ≡ AlwaysUse) × AllByRecursion (Tame V) xs
+  AskedOk L dl (waiting b ds) = Holder V L b × AllByRecursion (Tame V) L × (heads ds ≡ dl) × AllTold ds
 
   wait-ok : (L dl : List Meaning) (m : Meaning) (d : DeferredEstimate) (out : Asked) → Told m (Deferred d) → AskedOk L dl out → AskedOk L (m ∷ dl) (wait m d out)
   wait-ok L dl m d (ended u) e o = o
   wait-ok L dl m d (waiting b ds) e o = (o.0, o.1, ap (λ r. m ∷ r) o.2, (e, o.3))
 
   abbrev AskRest : List Meaning → Type 0
-  AskRest ms = (ps : List Meaning) (b : Best) → Holder V ps b → All (Tame V) ps → AskedOk (ps ++ immediates answers ms) (deferreds answers ms) (asked c t h f ms b)
+  AskRest ms = (ps : List Meaning) (b : Best) → Holder V ps b → AllByRecursion (Tame V) ps → AskedOk (ps ++ immediates answers ms) (deferreds answers ms) (asked c t h f ms b)
 
-  ask-go : (ms : List Meaning) (m : Meaning) (a : CompressionEstimate) → Told m a → AskRest ms → (ps : List Meaning) (b : Best) → Holder V ps b → All (Tame V) ps
+  ask-go : (ms : List Meaning) (m : Meaning) (a : CompressionEstimate) → Told m a → AskRest ms → (ps : List Meaning) (b : Best) → Holder V ps b → AllByRecursion (Tame V) ps
       → AskedOk (ps ++ immediate_step m a (immediates answers ms)) (deferred_step m a (deferreds answers ms)) (ask_step m a b (asked c t h f ms))
   ask-go ms m (Verdict Skip) g ih ps b hd tm =
       subst (λ L. AskedOk L (deferreds answers ms) (asked c t h f ms b)) (append_assoc ps (m ∷ []) (immediates answers ms))
@@ -232,16 +232,16 @@ module _ (c : Column) (t : Stats) (h : History) (f : Bool) (V : Meaning → Esti
   abbrev pub Known : Meaning → Type 0
   Known m = Told m (answers m)
 
-  asked-ok : (ms : List Meaning) → All Known ms → AskRest ms
+  asked-ok : (ms : List Meaning) → AllByRecursion Known ms → AskRest ms
   unfolding asked
   asked-ok [] k ps b hd tm = subst (λ L. AskedOk L [] (waiting b [])) (sym (append-nil ps)) (hd, tm, refl, tt)
   asked-ok (m ∷ ms) k ps b hd tm = ask-go ms m (answers m) k.0 (asked-ok ms k.1) ps b hd tm
 
   abbrev Rest : List (Meaning × DeferredEstimate) → Type 0
-  Rest ds = (ps : List Meaning) (b : Best) → Holder V ps b → All (Tame V) ps → Outcome V (ps ++ heads ds) (decided late ds b)
+  Rest ds = (ps : List Meaning) (b : Best) → Holder V ps b → AllByRecursion (Tame V) ps → Outcome V (ps ++ heads ds) (decided late ds b)
 
   late-go : (ds : List (Meaning × DeferredEstimate)) (m : Meaning) (r : Result EstimateVerdict Refusal) → V m ≡ or_skip r → Rest ds
-      → (ps : List Meaning) (b : Best) → Holder V ps b → All (Tame V) ps → Outcome V (ps ++ (m ∷ heads ds)) (late_step m r b (decided late ds))
+      → (ps : List Meaning) (b : Best) → Holder V ps b → AllByRecursion (Tame V) ps → Outcome V (ps ++ (m ∷ heads ds)) (late_step m r b (decided late ds))
   late-go ds m (Err e) g ih ps b hd tm = tt
   late-go ds m (Ok Skip) g ih ps b hd tm =
       subst (λ L. Outcome V L (decided late ds b)) (append_assoc ps (m ∷ []) (heads ds))
@@ -265,5 +265,5 @@ module _ (c : Column) (t : Stats) (h : History) (f : Bool) (V : Meaning → Esti
       (wins-always V o.0 m (o.1 ++ dl) o.3 o.4)
   chosen-go L dl (waiting b ds) o = subst (λ ms. Outcome V (L ++ ms) (decided late ds b)) o.2 (decided-ok ds o.3 L b o.0 o.1)
 
-  pub chosen-ok : (ms : List Meaning) → All Known ms → Outcome V (ranked answers ms) (chosen_by late (asked c t h f ms None))
+  pub chosen-ok : (ms : List Meaning) → AllByRecursion Known ms → Outcome V (ranked answers ms) (chosen_by late (asked c t h f ms None))
   chosen-ok ms k = chosen-go (immediates answers ms) (deferreds answers ms) (asked c t h f ms None) (asked-ok ms k [] None tt tt)

@@ -1,6 +1,6 @@
 -- Which node stands for a column, in the subject's words.
 use Rattle.std.specs.Prelude.{◌≡◌, ℕ, suc, ◌<◌, ◌≤◌, Bool, true, false, ◌&&◌, ◌⊎◌, List, [], ◌∷◌, ◌++◌, length, None, Ok, Err, Result}
-use Rattle.std.specs.List.{AllByRecursion as All}
+use Rattle.std.specs.List.{AllByRecursion}
 use Rattle.column.specs.declared.refusals.Refusal.{Refusal}
 use Rattle.column.specs.Columns.{Column, values}
 use Rattle.node.specs.Nodes.{Node, weight, plain_node, constant_node, blank_node}
@@ -107,8 +107,8 @@ pub record Wins (V : Meaning → EstimateVerdict) (ms : List Meaning) (m : Meani
   pub after : List Meaning
   pub split : ms ≡ before ++ (m ∷ after)
   pub valued : counts (V m) ≡ true
-  pub ahead : All (λ u. Lost (V m) (V u)) before
-  pub behind : All (λ u. Lost (V m) (V u) ⊎ (equals (V m) (V u) ≡ true)) after
+  pub ahead : AllByRecursion (λ u. Lost (V m) (V u)) before
+  pub behind : AllByRecursion (λ u. Lost (V m) (V u) ⊎ (equals (V m) (V u) ≡ true)) after
 
 -- the eligible schemes compete
 abbrev pub competitors : Opening → Bool → Column → History → List Meaning
@@ -118,7 +118,7 @@ abbrev pub WinsAt : Opening → Bool → ℕ → Column → History → Meaning 
 WinsAt o f l c h m = Wins (verdict_at o f l c h) (competitors o f c h) m
 
 abbrev pub NoneCounts : Opening → Bool → ℕ → Column → History → Type 0
-NoneCounts o f l c h = All (λ u. counts (verdict_at o f l c h u) ≡ false) (competitors o f c h)
+NoneCounts o f l c h = AllByRecursion (λ u. counts (verdict_at o f l c h u) ≡ false) (competitors o f c h)
 
 abbrev pub SomeScheme : List Meaning → Type 0
 SomeScheme [] = ⊥

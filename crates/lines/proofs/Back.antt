@@ -1,6 +1,6 @@
 -- A column's line gives the column again.
 use Rattle.std.proofs.Common.{◌≡◌, ℕ, suc, ◌+◌, ◌-◌, ◌*◌, ◌/◌, ◌%◌, ◌^◌, ◌<◌, ◌≤◌, Bool, true, false, cond, eqb, leb, List, [], ◌∷◌, ◌++◌, map, length, Some, None, decimal, Option, sym, refl, ap, ◌∙◌, subst, ap₂, arith}
-use Rattle.std.specs.List.{AllByRecursion as All}
+use Rattle.std.specs.List.{AllByRecursion}
 use Rattle.std.proofs.lemmas.List.{length-map}
 use Rattle.std.proofs.lemmas.Fmt.{decimal_by_steps}
 use Rattle.std.proofs.lemmas.Bool.{le-leb, leb-true, leb-false, ne_eqb, and_from, and_parts, cond-true, cond-false, true≢false}
@@ -28,11 +28,11 @@ digit-is : (d : ℕ) → d < 10 → is_digit (48 + d) ≡ true
 digit-is d h = and_from (leb 48 (48 + d)) (leb (48 + d) 57) (le-leb 48 (48 + d) (omega arith)) (le-leb (48 + d) 57 (omega arith))
 
 record Writes (n : ℕ) (ds : List ℕ) : Type 0 where
-  digits : All (λ c. is_digit c ≡ true) ds
+  digits : AllByRecursion (λ c. is_digit c ≡ true) ds
   some : 0 < length ds
   value : number_after 0 ds ≡ Some n
 
-all_push : (ds : List ℕ) (c : ℕ) → All (λ c. is_digit c ≡ true) ds → is_digit c ≡ true → All (λ c. is_digit c ≡ true) (ds ++ (c ∷ []))
+all_push : (ds : List ℕ) (c : ℕ) → AllByRecursion (λ c. is_digit c ≡ true) ds → is_digit c ≡ true → AllByRecursion (λ c. is_digit c ≡ true) (ds ++ (c ∷ []))
 all_push [] c h e = (e, tt)
 all_push (d ∷ ds) c h e = (h.0, all_push ds c h.1 e)
 
@@ -64,7 +64,7 @@ digit-apart c x h e =
 
 -- ---- one field
 
-plain-digits : (ds : List ℕ) → All (λ c. is_digit c ≡ true) ds → All (λ c. eqb c comma ≡ false) ds
+plain-digits : (ds : List ℕ) → AllByRecursion (λ c. is_digit c ≡ true) ds → AllByRecursion (λ c. eqb c comma ≡ false) ds
 plain-digits [] h = tt
 plain-digits (d ∷ ds) h = (digit-apart d comma (omega arith) h.0, plain-digits ds h.1)
 
@@ -117,9 +117,9 @@ value-back q w h =
       | false ↦ λ n. unsigned-field (number_of q) (decimal w) w (decimal-writes w n.word) n.near
     ] (numbered q w h (is_below (number_of q) w) refl)
 
-value-plain : (q : Kind) (w : ℕ) → in_kind (number_of q) w ≡ true → All (λ c. eqb c comma ≡ false) (field_of (number_of q) (Some w))
+value-plain : (q : Kind) (w : ℕ) → in_kind (number_of q) w ≡ true → AllByRecursion (λ c. eqb c comma ≡ false) (field_of (number_of q) (Some w))
 value-plain q w h =
-    elim (is_below (number_of q) w) as (λ b. Numbered (number_of q) w b → All (λ c. eqb c comma ≡ false) (cond b (minus ∷ decimal (negated w)) (decimal w))) [
+    elim (is_below (number_of q) w) as (λ b. Numbered (number_of q) w b → AllByRecursion (λ c. eqb c comma ≡ false) (cond b (minus ∷ decimal (negated w)) (decimal w))) [
       | true ↦ λ n. (refl, plain-digits (decimal (negated w)) (decimal-writes (negated w) n.word).digits)
       | false ↦ λ n. plain-digits (decimal w) (decimal-writes w n.word).digits
     ] (numbered q w h (is_below (number_of q) w) refl)
@@ -127,11 +127,11 @@ value-plain q w h =
 -- ---- the fields of a line
 
 -- a field before the end, and before a comma
-fields-end : (f : List ℕ) → All (λ c. eqb c comma ≡ false) f → fields_of (f ++ []) ≡ f ∷ []
+fields-end : (f : List ℕ) → AllByRecursion (λ c. eqb c comma ≡ false) f → fields_of (f ++ []) ≡ f ∷ []
 fields-end [] h = refl
 fields-end (c ∷ f) h = ap₂ (λ b fs. fields_by b c fs) h.0 (fields-end f h.1)
 
-fields-comma : (f t : List ℕ) → All (λ c. eqb c comma ≡ false) f → fields_of (f ++ (comma ∷ t)) ≡ f ∷ fields_of t
+fields-comma : (f t : List ℕ) → AllByRecursion (λ c. eqb c comma ≡ false) f → fields_of (f ++ (comma ∷ t)) ≡ f ∷ fields_of t
 fields-comma [] t h = refl
 fields-comma (c ∷ f) t h = ap₂ (λ b fs. fields_by b c fs) h.0 (fields-comma f t h.1)
 
@@ -139,7 +139,7 @@ stray-head : (b : Bool) (i : ℕ) (o : Option ℕ) → stray_by b i o ≡ None �
 stray-head true i o e = (refl, e)
 stray-head false i o e = let z : ◌≡◌ {A = ℕ} 0 1 = cc in absurd (omega arith)
 
-rows-fields : (q : Kind) (i : ℕ) (rs : List Row) (f : List ℕ) → stray_from (number_of q) i rs ≡ None → All (λ c. eqb c comma ≡ false) f
+rows-fields : (q : Kind) (i : ℕ) (rs : List Row) (f : List ℕ) → stray_from (number_of q) i rs ≡ None → AllByRecursion (λ c. eqb c comma ≡ false) f
     → fields_of (f ++ rows_line (number_of q) rs) ≡ f ∷ map (field_of (number_of q)) rs
 rows-fields q i [] f e h = fields-end f h
 rows-fields q i (None ∷ rs) f e h = fields-comma f (rows_line (number_of q) rs) h ∙ ap (λ fs. f ∷ fs) (rows-fields q (suc i) rs [] e tt)
@@ -157,7 +157,7 @@ rows_back q i (Some w ∷ rs) e =
 
 -- ---- the line
 
-name-plain : (q : Kind) → All (λ c. eqb c comma ≡ false) (name_of q)
+name-plain : (q : Kind) → AllByRecursion (λ c. eqb c comma ≡ false) (name_of q)
 name-plain U8 = (refl, (refl, tt))
 name-plain U16 = (refl, (refl, (refl, tt)))
 name-plain U32 = (refl, (refl, (refl, tt)))

@@ -1,6 +1,6 @@
 -- Plain, constant and blank nodes: their rows come back, and how long they are.
 use Rattle.std.proofs.Common.{◌≡◌, ℕ, zero, suc, ◌+◌, ◌*◌, ◌^◌, ◌<◌, ◌≤◌, Bool, true, false, ◌&&◌, leb, List, [], ◌∷◌, ◌++◌, length, get_or, take, drop, replicate, Some, None, sym, refl, ap, ◌∙◌, subst, inl, inr, append-nil, zero-lt-suc, arith, length-append}
-use Rattle.std.specs.List.{AllByRecursion as All}
+use Rattle.std.specs.List.{AllByRecursion}
 use Rattle.std.proofs.lemmas.List.{drop_all}
 use Rattle.std.proofs.lemmas.Bool.{and_from, and_parts, le-leb, leb-true, true≢false}
 use Rattle.packing.specs.Packing.{joined, digits, packed_len, Below, written}
@@ -49,7 +49,7 @@ below_plain c = below-append 256 (at_width c.kind (cells c.rows)) (mask c.rows) 
 
 -- ---- constant
 
-constant-rows : (v : ℕ) (rs : List Row) → All (λ w. w ≡ v) (values_of rs) → constant_from (bits rs) v ≡ rs
+constant-rows : (v : ℕ) (rs : List Row) → AllByRecursion (λ w. w ≡ v) (values_of rs) → constant_from (bits rs) v ≡ rs
 constant-rows v [] h = refl
 constant-rows v (None ∷ rs) h = ap (λ (xs : List Row). None ∷ xs) (constant-rows v rs h)
 constant-rows v (Some w ∷ rs) h = λ i. Some (sym h.0 i) ∷ constant-rows v rs h.1 i
@@ -60,14 +60,14 @@ constant-back c h o = go (values c) refl o (clean-values c h)
     rs : List Row
     rs = c.rows
 
-    go : (vs : List ℕ) → values c ≡ vs → OneValue vs → All (InKind c.kind) vs → constant_rows c.kind (length rs) (flag_of rs) (at_width c.kind (first_of vs) ++ mask rs) ≡ rs
+    go : (vs : List ℕ) → values c ≡ vs → OneValue vs → AllByRecursion (InKind c.kind) vs → constant_rows c.kind (length rs) (flag_of rs) (at_width c.kind (first_of vs) ++ mask rs) ≡ rs
     go [] e o a = absurd o
     go (v ∷ vs) e o a =
         (λ i. constant_from
         (unmask (flag_of rs) (length rs) (after-width c.kind 1 (v ∷ []) (mask rs) refl i))
         (get_or (width_back c.kind 1 (v ∷ []) (mask rs) (clean-kind c h) refl (a.0, tt) i) 0 0))
         ∙ ap (λ bs. constant_from bs v) (mask-back rs)
-        ∙ constant-rows v rs (subst (All (λ w. w ≡ v)) (sym e) (refl, o))
+        ∙ constant-rows v rs (subst (AllByRecursion (λ w. w ≡ v)) (sym e) (refl, o))
 
 pub length-constant : (c : Column) → 0 < length (values c) → length (constant_payload c) ≡ constant_len c.kind (length c.rows) (has_blank c.rows)
 length-constant c h =

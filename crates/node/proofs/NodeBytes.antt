@@ -1,7 +1,7 @@
 -- A node's bytes, read back part by part, whatever follows.
 use Rattle.std.proofs.Common.{◌≡◌, ℕ, suc, ◌+◌, ◌^◌, ◌<◌, ◌≤◌, max, List, [], ◌∷◌, ◌++◌, length, take, drop, sym, refl, ap, ◌∙◌, subst, append_assoc, append-nil, zero-lt-suc, arith, length-append}
 use lib.Seq.{take-append_seam, drop-append_seam}
-use Rattle.std.specs.List.{AllByRecursion as All}
+use Rattle.std.specs.List.{AllByRecursion}
 use Rattle.std.proofs.lemmas.List.{take_at, drop_at}
 use Rattle.packing.specs.Packing.{joined, digits, Below}
 use Rattle.packing.proofs.Digits.{below-digits, joined-digits}
@@ -81,14 +81,14 @@ flat-over h p ns l =
     flat-is (node_over h p ns)
     ∙ (λ i. laid (head_bytes (over-head h p ns i) (length (over-payload h p ns i)) (whole (node_over h p ns))) (over-payload h p ns i) (flats (over-children h p ns l i)))
 
-pub height-over : (h : Head) (p : List ℕ) (ns : List Node) (d : ℕ) → All (λ n. height n ≤ d) ns → height (node_over h p ns) ≤ suc d
+pub height-over : (h : Head) (p : List ℕ) (ns : List Node) (d : ℕ) → AllByRecursion (λ n. height n ≤ d) ns → height (node_over h p ns) ≤ suc d
 height-over h p [] d a = omega arith
 height-over h p (m ∷ []) d a = let x = a.0 in omega arith
 height-over h p (m ∷ (n ∷ ns)) d a = let x = a.0 in let y = a.1.0 in omega arith
 
 -- ---- what fits the head's fields
 
-pub fit-over : (h : Head) (p : List ℕ) (ns : List Node) → FitHead h → whole (node_over h p ns) < 2 ^ 32 → All Fit ns → Fit (node_over h p ns)
+pub fit-over : (h : Head) (p : List ℕ) (ns : List Node) → FitHead h → whole (node_over h p ns) < 2 ^ 32 → AllByRecursion Fit ns → Fit (node_over h p ns)
 fit-over h p [] f w a = (f, w)
 fit-over h p (m ∷ []) f w a = (f, w, a.0)
 fit-over h p (m ∷ (n ∷ ns)) f w a = (f, w, a.0, a.1.0)

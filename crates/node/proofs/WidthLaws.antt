@@ -1,6 +1,6 @@
 -- Cells at a kind's width, and back.
 use Rattle.std.proofs.Common.{◌≡◌, ℕ, zero, suc, ◌+◌, ◌-◌, ◌%◌, ◌^◌, ◌<◌, ◌≤◌, Bool, true, false, cond, ltb, ◌⊎◌, List, [], ◌∷◌, ◌++◌, map, length, get_or, take, drop, set, Some, None, Option, sym, refl, ap, ◌∙◌, inl, inr, arith, length-append}
-use Rattle.std.specs.List.{AllByRecursion as All}
+use Rattle.std.specs.List.{AllByRecursion}
 use Rattle.std.proofs.lemmas.List.Edits.{map_over_more}
 use Rattle.std.proofs.lemmas.List.{drop_more, get_or_at, get_or_default, length-drop, length-map, length-take-le}
 use Rattle.std.proofs.lemmas.Bool.{false≢true, ltb-true, ltb-false, lt-ltb, le-ltb, leb-true, cases_lt, cond-true, cond-false, cond_both}
@@ -53,7 +53,7 @@ widen_low =
     (λ w h. let b = bounds 6 w h in cond_both (ltb (w % 2 ^ 32) (2 ^ 31)) (w % 2 ^ 32) (w % 2 ^ 32 + (2 ^ 64 - 2 ^ 32)) (λ x. x ≡ w) (λ e. let t = ltb-true _ _ e in omega arith) (λ e. let t = ltb-false _ _ e in omega arith))
     (λ w h. let b = bounds 7 w h in cond_both (ltb (w % 2 ^ 64) (2 ^ 63)) (w % 2 ^ 64) (w % 2 ^ 64 + (2 ^ 64 - 2 ^ 64)) (λ x. x ≡ w) (λ e. omega arith) (λ e. omega arith))
 
-pub widen-all : (k : ℕ) (ws : List ℕ) → k ≤ 7 → All (InKind k) ws → widen k (low_bits (width k) ws) ≡ ws
+pub widen-all : (k : ℕ) (ws : List ℕ) → k ≤ 7 → AllByRecursion (InKind k) ws → widen k (low_bits (width k) ws) ≡ ws
 widen-all k [] h a = refl
 widen-all k (w ∷ ws) h a = λ i. widen_low k h w a.0 i ∷ widen-all k ws h a.1 i
 
@@ -66,7 +66,7 @@ pub below-at_width : (k : ℕ) (ws : List ℕ) → Below 256 (at_width k ws)
 below-at_width k ws = below-packed (width k) (low_bits (width k) ws)
 
 -- values of the kind come back, whatever follows
-pub width_back : (k n : ℕ) (ws rest : List ℕ) → k ≤ 7 → length ws ≡ n → All (InKind k) ws → from_width k n (at_width k ws ++ rest) ≡ ws
+pub width_back : (k n : ℕ) (ws rest : List ℕ) → k ≤ 7 → length ws ≡ n → AllByRecursion (InKind k) ws → from_width k n (at_width k ws ++ rest) ≡ ws
 width_back k n ws rest h e a =
     let xs = low_bits (width k) ws in
     let l : length xs ≡ n = length-low_bits (width k) ws ∙ e in
@@ -91,20 +91,20 @@ stray-step k i w later e = go (in_kind k w) refl e
     go true g f = (g, f)
     go false g f = absurd (let z : ◌≡◌ {A = ℕ} 0 1 = cc in omega arith)
 
-stray-values : (k i : ℕ) (rs : List Row) → stray_from k i rs ≡ None → All (InKind k) (values_of rs)
+stray-values : (k i : ℕ) (rs : List Row) → stray_from k i rs ≡ None → AllByRecursion (InKind k) (values_of rs)
 stray-values k i [] e = tt
 stray-values k i (None ∷ rs) e = stray-values k (suc i) rs e
 stray-values k i (Some w ∷ rs) e = let s = stray-step k i w (stray_from k (suc i) rs) e in (s.0, stray-values k (suc i) rs s.1)
 
-cells-all : (P : ℕ → Type 0) (rs : List Row) → P 0 → All P (values_of rs) → All P (cells rs)
+cells-all : (P : ℕ → Type 0) (rs : List Row) → P 0 → AllByRecursion P (values_of rs) → AllByRecursion P (cells rs)
 cells-all P [] z a = tt
 cells-all P (None ∷ rs) z a = (z, cells-all P rs z a)
 cells-all P (Some w ∷ rs) z a = (a.0, cells-all P rs z a.1)
 
-pub clean-values : (c : Column) → Clean c → All (InKind c.kind) (values c)
+pub clean-values : (c : Column) → Clean c → AllByRecursion (InKind c.kind) (values c)
 clean-values c h = stray-values c.kind 0 c.rows h.2
 
-pub clean-cells : (c : Column) → Clean c → All (InKind c.kind) (cells c.rows)
+pub clean-cells : (c : Column) → Clean c → AllByRecursion (InKind c.kind) (cells c.rows)
 clean-cells c h = cells-all (InKind c.kind) c.rows (zero_in c.kind (clean-kind c h)) (clean-values c h)
 
 -- ---- the sign, cell by cell: those above the greatest value move up

@@ -1,6 +1,6 @@
 -- Nodes: a head, a payload and up to two children.
 use Rattle.std.specs.Prelude.{◌≡◌, ℕ, suc, ◌+◌, ◌^◌, ◌<◌, max, ◌⊎◌, List, [], ◌∷◌, ◌++◌, length}
-use Rattle.std.specs.List.{AllByRecursion as All}
+use Rattle.std.specs.List.{AllByRecursion}
 use Rattle.packing.specs.Packing.{digits}
 use Rattle.column.specs.Kinds.{width}
 use Rattle.column.specs.Columns.{Column, values}
@@ -85,7 +85,7 @@ blank_node c = leaf (record { form = 2; kind = c.kind; cell_bits = 0; flag = 0; 
 -- there is a value, and every value is the same
 abbrev pub OneValue : List ℕ → Type 0
 OneValue [] = ⊥
-OneValue (v ∷ vs) = All (λ w. w ≡ v) vs
+OneValue (v ∷ vs) = AllByRecursion (λ w. w ≡ v) vs
 
 -- a node without a scheme that gives the column back
 abbrev pub Bare : Column → Node → Type 0

@@ -1,7 +1,7 @@
 -- The parts of a column join back to it.
 use Rattle.std.specs.Prelude.{◌≡◌, ℕ, zero, suc, ◌+◌, ◌-◌, ◌≤◌, Bool, true, false, List, [], ◌∷◌, length, ◌==◌, refl}
 use Rattle.std.proofs.Common.{zero-le, suc-le-suc, le_refl, arith, sym, ap, ◌∙◌}
-use Rattle.std.specs.List.{AllByRecursion as All}
+use Rattle.std.specs.List.{AllByRecursion}
 use Rattle.std.proofs.ByRecursion.{All-weaker}
 use Rattle.std.proofs.lemmas.Bool.{eqb-true}
 use Rattle.column.specs.Kinds.{in_kind}
@@ -47,7 +47,7 @@ unrun-back (v ∷ vs) = runs-back vs 0 1 v zero-le
 
 -- ---- the children
 
-unless-all : (P : ℕ → Type 0) (q : Bool) (v : ℕ) (vs : List ℕ) → P v → All P vs → All P (unless q v vs)
+unless-all : (P : ℕ → Type 0) (q : Bool) (v : ℕ) (vs : List ℕ) → P v → AllByRecursion P vs → AllByRecursion P (unless q v vs)
 unless-all P true v vs h a = a
 unless-all P false v vs h a = (h, a)
 
@@ -55,11 +55,11 @@ unless-short : (q : Bool) (v : ℕ) (vs : List ℕ) (n : ℕ) → length vs ≤ 
 unless-short true v vs n h = omega arith
 unless-short false v vs n h = suc-le-suc h
 
-heads-after-all : (P : ℕ → Type 0) (p : ℕ) (vs : List ℕ) → All P vs → All P (heads_after p vs)
+heads-after-all : (P : ℕ → Type 0) (p : ℕ) (vs : List ℕ) → AllByRecursion P vs → AllByRecursion P (heads_after p vs)
 heads-after-all P p [] a = tt
 heads-after-all P p (v ∷ vs) a = unless-all P (p == v) v (heads_after v vs) a.0 (heads-after-all P v vs a.1)
 
-heads-all : (P : ℕ → Type 0) (vs : List ℕ) → All P vs → All P (heads vs)
+heads-all : (P : ℕ → Type 0) (vs : List ℕ) → AllByRecursion P vs → AllByRecursion P (heads vs)
 heads-all P [] a = tt
 heads-all P (v ∷ vs) a = (a.0, heads-after-all P v vs a.1)
 
@@ -71,12 +71,12 @@ heads-short : (vs : List ℕ) → length (heads vs) ≤ length vs
 heads-short [] = zero-le
 heads-short (v ∷ vs) = suc-le-suc (heads-after-short v vs)
 
-ends-after-all : (n p : ℕ) (vs : List ℕ) (t : ℕ) → n + length vs ≤ t → All (λ e. e ≤ t) (ends_after n p vs)
+ends-after-all : (n p : ℕ) (vs : List ℕ) (t : ℕ) → n + length vs ≤ t → AllByRecursion (λ e. e ≤ t) (ends_after n p vs)
 ends-after-all n p [] t h = (omega arith, tt)
 ends-after-all n p (v ∷ vs) t h =
     unless-all (λ e. e ≤ t) (p == v) n (ends_after (suc n) v vs) (omega arith) (ends-after-all (suc n) v vs t (omega arith))
 
-ends-all : (vs : List ℕ) → All (λ e. e ≤ length vs) (ends vs)
+ends-all : (vs : List ℕ) → AllByRecursion (λ e. e ≤ length vs) (ends vs)
 ends-all [] = tt
 ends-all (v ∷ vs) = ends-after-all 1 v vs (suc (length vs)) (omega arith)
 

@@ -1,7 +1,7 @@
 -- The rows of a sample.
 use Rattle.std.proofs.Common.{◌≡◌, ℕ, zero, suc, ◌+◌, ◌-◌, ◌*◌, ◌/◌, ◌^◌, ◌<◌, ◌≤◌, min, Bool, true, false, leb, ◌⊎◌, List, [], ◌∷◌, ◌++◌, length, get_or, take, drop, Some, None, sym, refl, ap, ◌∙◌, subst, inl, inr, zero-lt-suc, arith, length-append, length-drop, length-take}
 use Rattle.std.proofs.lemmas.Bool.{leb-true, leb-false, le-leb, lt-leb}
-use Rattle.std.specs.List.{AllByRecursion as All}
+use Rattle.std.specs.List.{AllByRecursion}
 use Rattle.packing.specs.Packing.{written, joined}
 use Rattle.packing.proofs.Digits.{length_digits}
 use Rattle.packing.proofs.Written.{take-written}
@@ -85,7 +85,7 @@ sample-length d w rs = go (leb (length rs) (64 * sample_count (length rs))) refl
 
 -- P of each value
 abbrev Each : (ℕ → Type 0) → List Row → Type 0
-Each P rs = All P (values_of rs)
+Each P rs = AllByRecursion P (values_of rs)
 
 each_take : (P : ℕ → Type 0) (n : ℕ) (rs : List Row) → Each P rs → Each P (take n rs)
 each_take P zero rs h = tt

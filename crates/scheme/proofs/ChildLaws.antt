@@ -1,6 +1,6 @@
 -- Children of a scheme: what the narrowest kind holds, and columns without a blank.
 use Rattle.std.proofs.Common.{◌≡◌, ℕ, ◌^◌, ◌<◌, ◌≤◌, Bool, true, false, ltb, List, [], ◌∷◌, length, take, Some, None, sym, refl, ap, ◌∙◌, subst, suc-le-suc, zero-le, arith}
-use Rattle.std.specs.List.{AllByRecursion as All}
+use Rattle.std.specs.List.{AllByRecursion}
 use Rattle.std.proofs.lemmas.List.{length-map, length-take-le, take_at}
 use Rattle.std.proofs.lemmas.Bool.{ltb-true, le-leb}
 use Rattle.packing.specs.Packing.{joined, digits, written}
@@ -28,7 +28,7 @@ narrows m h = go (ltb m (2 ^ 8)) (ltb m (2 ^ 16)) refl refl
 
 -- ---- clean columns
 
-pub is-clean : (c : Column) → c.kind ≤ 7 → length c.rows ≤ 131072 → All (λ w. in_kind c.kind w ≡ true) (values_of c.rows) → Clean c
+pub is-clean : (c : Column) → c.kind ≤ 7 → length c.rows ≤ 131072 → AllByRecursion (λ w. in_kind c.kind w ≡ true) (values_of c.rows) → Clean c
 is-clean c k l a = (le-leb c.kind 7 k, le-leb (length c.rows) 131072 l, stray-each c.kind 0 c.rows a)
 
 -- ---- rows and their values
@@ -75,7 +75,7 @@ some_stored k n vs cs ws old e l w =
     let words : take (words_for n) ws ≡ presence (some_rows vs) = front ∙ ap (λ m. words_of m (ones m)) (sym len) ∙ sym (presence-some vs) in
     λ i. (rows i, record { kind = k; cells = held i; words = words i })
 
-pub some-clean : (k : ℕ) (vs : List ℕ) → k ≤ 7 → length vs ≤ 131072 → All (λ w. in_kind k w ≡ true) vs → Clean (record { kind = k; rows = some_rows vs })
+pub some-clean : (k : ℕ) (vs : List ℕ) → k ≤ 7 → length vs ≤ 131072 → AllByRecursion (λ w. in_kind k w ≡ true) vs → Clean (record { kind = k; rows = some_rows vs })
 some-clean k vs h l a =
     let e = length_some vs in
-    is-clean (record { kind = k; rows = some_rows vs }) h (omega arith) (subst (All (λ w. in_kind k w ≡ true)) (sym (values-some vs)) a)
+    is-clean (record { kind = k; rows = some_rows vs }) h (omega arith) (subst (AllByRecursion (λ w. in_kind k w ≡ true)) (sym (values-some vs)) a)

@@ -1,6 +1,6 @@
 -- The distinct part from the table that was sorted, split and turned back.
 use Rattle.std.proofs.Common.{◌≡◌, ℕ, zero, suc, ◌+◌, ◌^◌, ◌<◌, ◌≤◌, Bool, List, [], ◌∷◌, ◌++◌, map, length, take, drop, sym, ap, ◌∙◌, arith}
-use Rattle.std.specs.List.{zip, AllByRecursion as All}
+use Rattle.std.specs.List.{zip, AllByRecursion}
 use Rattle.std.proofs.lemmas.List.{take_at, length-map, length-take-le}
 use Rattle.std.proofs.lemmas.Slice.{drop-append-drop}
 use Rattle.column.specs.Kinds.{key_by, signed}
@@ -11,7 +11,7 @@ use Rattle.stats.proofs.Tallying.{tally-is}
 use Rattle.stats.proofs.Tops.{most-le}
 
 -- n values in vs with their counts in cs, of which part holds the values turned back
-info-is : (k : ℕ) (s : Bool) (xs ts ws vs cs part rest : List ℕ) (n m : ℕ) (best : ℕ × ℕ) (top : ℕ) → signed k ≡ s → All (λ w. w < 2 ^ 64) xs
+info-is : (k : ℕ) (s : Bool) (xs ts ws vs cs part rest : List ℕ) (n m : ℕ) (best : ℕ × ℕ) (top : ℕ) → signed k ≡ s → AllByRecursion (λ w. w < 2 ^ 64) xs
     → ts ≡ map (key_by s) xs → ws ≡ ascending ts → take n vs ≡ heads ws → take n cs ≡ lens ws → n ≤ length vs → m ≡ n
     → part ≡ map (key_by s) (take m vs) → best ≡ commonest (zip (take m (part ++ rest)) (take m cs)) → top ≡ best.0
     → ◌≡◌ {A = Distinct} (record { counted = zip (take n (part ++ rest)) (take n cs); top = top; top_count = best.1 }) (distinct_of (tally k xs))
@@ -27,7 +27,7 @@ info-is k s xs ts ws vs cs part rest n m best top e a t w h l f mn p b te =
     ∙ ap (λ (z : List (ℕ × ℕ)). record { counted = z; top = (commonest (tally k xs)).0; top_count = (commonest (tally k xs)).1 }) tab
 
 -- the same in one table, with the counts from n on
-pub info-in : {T : Type 0} (cell : T → ℕ) (k : ℕ) (s : Bool) (t0 ts ws t3 part post1 post2 : List ℕ) (n m num mum lum : ℕ) (best : ℕ × ℕ) (top : T) → signed k ≡ s → All (λ w. w < 2 ^ 64) (take n t0)
+pub info-in : {T : Type 0} (cell : T → ℕ) (k : ℕ) (s : Bool) (t0 ts ws t3 part post1 post2 : List ℕ) (n m num mum lum : ℕ) (best : ℕ × ℕ) (top : T) → signed k ≡ s → AllByRecursion (λ w. w < 2 ^ 64) (take n t0)
     → m ≡ n → mum ≡ num → lum ≡ num → num ≤ n → n ≤ length t3 → length ts ≡ n → length ws ≡ n
     → ts ≡ map (key_by s) (take m t0) → ws ≡ ascending (take m (ts ++ post1)) → take num t3 ≡ heads (take n (ws ++ post2)) → take num (drop n t3) ≡ lens (take n (ws ++ post2))
     → part ≡ map (key_by s) (take mum t3) → best ≡ commonest (zip (take mum (part ++ drop mum t3)) (take lum (drop n (part ++ drop mum t3)))) → cell top ≡ best.0
@@ -59,7 +59,7 @@ info-beyond t0 ts ws t3 part n m mum mn f lt lw lp e =
     ∙ drop-append-drop m (ts ++ drop m t0) ws (n + n) (omega arith) lw
     ∙ drop-append-drop m t0 ts (n + n) (omega arith) lt
 
-pub all_take : (P : ℕ → Type 0) (n : ℕ) (xs : List ℕ) → All P xs → All P (take n xs)
+pub all_take : (P : ℕ → Type 0) (n : ℕ) (xs : List ℕ) → AllByRecursion P xs → AllByRecursion P (take n xs)
 all_take P zero xs a = tt
 all_take P (suc n) [] a = tt
 all_take P (suc n) (x ∷ xs) a = (a.0, all_take P n xs a.1)

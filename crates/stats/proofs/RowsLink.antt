@@ -2,7 +2,7 @@
 use Rattle.std.proofs.Common.{◌≡◌, ℕ, zero, suc, ◌+◌, ◌*◌, ◌/◌, ◌%◌, ◌^◌, ◌<◌, ◌≤◌, Bool, true, false, cond, eqb, ◌⊎◌, List, [], ◌∷◌, ◌++◌, length, take, drop, sym, refl, ap, ◌∙◌, inl, inr, mul_assoc, pow-suc, mul-one, div-one, arith, shr-shr}
 use Rattle.std.proofs.lemmas.Bool.{cases_lt}
 use Rattle.std.proofs.lemmas.List.{take-append-drop, length-take, length-drop, length-take-le}
-use Rattle.std.specs.List.{AllByRecursion as All}
+use Rattle.std.specs.List.{AllByRecursion}
 use Rattle.packing.specs.Packing.{joined, digits}
 use Rattle.column.specs.Columns.{Row, row_of, rows_of, values_of, word_bits}
 use Rattle.stats.specs.Blocks.{bit, kept_from, block_values}
@@ -49,7 +49,7 @@ block-rows (suc d) w j J (x ∷ xs) ys vs s l o h v =
     ∙ ap (λ z. values_of (row_of z x ∷ rest)) (sym low)
     ∙ ap (λ z. values_of (row_of (N % 2) x ∷ rows_of (digits 2 (length (xs ++ ys)) z) (xs ++ ys))) (sym high)
 
-pub rows-link : (ws cells : List ℕ) → All (λ w. w < 2 ^ 64) ws → block_values ws cells ≡ values_of (rows_of (word_bits (length cells) ws) cells)
+pub rows-link : (ws cells : List ℕ) → AllByRecursion (λ w. w < 2 ^ 64) ws → block_values ws cells ≡ values_of (rows_of (word_bits (length cells) ws) cells)
 rows-link [] cells a = sym (blank-rows cells)
 rows-link (w ∷ ws) cells a =
     let xs = take 64 cells in

@@ -1,7 +1,7 @@
 -- The table ascends strictly, has each value with its number of occurrences and nothing else; the commonest and the ends are what
 -- they are called.
 use Rattle.std.proofs.Common.{◌≡◌, ℕ, suc, ◌+◌, ◌^◌, ◌<◌, ◌≤◌, Bool, true, false, cond, ◌&&◌, eqb, ltb, leb, ◌⊎◌, List, [], ◌∷◌, length, Some, None, sym, refl, ap, ◌∙◌, subst, inl, inr, true≢false, zero-add, arith}
-use Rattle.std.specs.List.{AllByRecursion as All}
+use Rattle.std.specs.List.{AllByRecursion}
 use Rattle.std.proofs.lemmas.Bool.{eqb-true, eqb-false, ltb-true, ltb-false, leb-true, leb-false, eq-eqb, ne_eqb, lt-ltb, cases_lt}
 use Rattle.column.specs.Kinds.{key, key_by, signed, least, greatest, in_kind}
 use Rattle.column.specs.Columns.{Row, Column, Clean, stray_by, stray_from, values_of, values}
@@ -17,7 +17,7 @@ abbrev pub Mem : ℕ → List ℕ → Type 0
 Mem v [] = ⊥
 Mem v (w ∷ ws) = (v ≡ w) ⊎ Mem v ws
 
-all_map : (P Q : ℕ → Type 0) → ((w : ℕ) → P w → Q w) → (xs : List ℕ) → All P xs → All Q xs
+all_map : (P Q : ℕ → Type 0) → ((w : ℕ) → P w → Q w) → (xs : List ℕ) → AllByRecursion P xs → AllByRecursion Q xs
 all_map P Q f [] a = tt
 all_map P Q f (x ∷ xs) a = (f x a.0, all_map P Q f xs a.1)
 
@@ -48,23 +48,23 @@ counted-old u k v (p ∷ ps) m = go (eqb v p.0) (ltb (key k v) (key k p.0)) refl
     go false false e (inl g) ih = inl g
     go false false e (inr g) ih = inr (ih g)
 
-pub tally-mem : (k : ℕ) (vs : List ℕ) → All (λ v. Mem v (firsts (tally k vs))) vs
+pub tally-mem : (k : ℕ) (vs : List ℕ) → AllByRecursion (λ v. Mem v (firsts (tally k vs))) vs
 tally-mem k [] = tt
 tally-mem k (v ∷ vs) = (
   counted-new k v (tally k vs),
   all_map (λ u. Mem u (firsts (tally k vs))) (λ u. Mem u (firsts (counted k v (tally k vs)))) (λ u m. counted-old u k v (tally k vs) m) vs (tally-mem k vs),
 )
 
-counted-all : (P : ℕ → Type 0) (k v : ℕ) (ps : List (ℕ × ℕ)) → P v → All P (firsts ps) → All P (firsts (counted k v ps))
+counted-all : (P : ℕ → Type 0) (k v : ℕ) (ps : List (ℕ × ℕ)) → P v → AllByRecursion P (firsts ps) → AllByRecursion P (firsts (counted k v ps))
 counted-all P k v [] h a = (h, tt)
 counted-all P k v (p ∷ ps) h a = go (eqb v p.0) (ltb (key k v) (key k p.0)) (counted-all P k v ps h a.1)
   where
-    go : (q s : Bool) → All P (firsts (counted k v ps)) → All P (firsts (counted_by q s v p ps (counted k v ps)))
+    go : (q s : Bool) → AllByRecursion P (firsts (counted k v ps)) → AllByRecursion P (firsts (counted_by q s v p ps (counted k v ps)))
     go true s m = (h, a.1)
     go false true m = (h, a)
     go false false m = (a.0, m)
 
-pub tally-all : (P : ℕ → Type 0) (k : ℕ) (vs : List ℕ) → All P vs → All P (firsts (tally k vs))
+pub tally-all : (P : ℕ → Type 0) (k : ℕ) (vs : List ℕ) → AllByRecursion P vs → AllByRecursion P (firsts (tally k vs))
 tally-all P k [] a = tt
 tally-all P k (v ∷ vs) a = counted-all P k v (tally k vs) a.0 (tally-all P k vs a.1)
 
@@ -90,7 +90,7 @@ later k v w a b e f =
     let n : key k v ≡ key k w → ⊥ = λ g. eqb-false v w e (key-same (signed k) v w a b g) in
     omega arith
 
-counted-ascends : (k v : ℕ) (ps : List (ℕ × ℕ)) → Word v → All Word (firsts ps) → Ascends k (firsts ps) → Ascends k (firsts (counted k v ps))
+counted-ascends : (k v : ℕ) (ps : List (ℕ × ℕ)) → Word v → AllByRecursion Word (firsts ps) → Ascends k (firsts ps) → Ascends k (firsts (counted k v ps))
 counted-ascends k v [] w ws a = (tt, tt)
 counted-ascends k v (p ∷ ps) w ws a = go (eqb v p.0) (ltb (key k v) (key k p.0)) refl refl (counted-ascends k v ps w ws.1 a.1)
   where
@@ -99,7 +99,7 @@ counted-ascends k v (p ∷ ps) w ws a = go (eqb v p.0) (ltb (key k v) (key k p.0
     go false true e f r = let l = ltb-true (key k v) (key k p.0) f in ((l, after-trans k v p.0 (firsts ps) l a.0), a)
     go false false e f r = (counted-after k p.0 v ps (later k v p.0 w ws.0 e f) a.0, r)
 
-pub tally-ascends : (k : ℕ) (vs : List ℕ) → All Word vs → Ascends k (firsts (tally k vs))
+pub tally-ascends : (k : ℕ) (vs : List ℕ) → AllByRecursion Word vs → Ascends k (firsts (tally k vs))
 tally-ascends k [] a = tt
 tally-ascends k (v ∷ vs) a = counted-ascends k v (tally k vs) a.0 (tally-all Word k vs a.1) (tally-ascends k vs a.1)
 
@@ -122,14 +122,14 @@ here F v = ap (λ q. cond q 1 0 + F v) (eq-eqb v v refl)
 elsewhere : (F : ℕ → ℕ) (u v : ℕ) → (u ≡ v → ⊥) → more F v u ≡ F u
 elsewhere F u v n = ap (λ q. cond q 1 0 + F u) (ne_eqb u v n) ∙ zero-add (F u)
 
-untouched : (k v : ℕ) (F : ℕ → ℕ) (ps : List (ℕ × ℕ)) → EachAfter k v (firsts ps) → All (Counts F) ps → All (Counts (more F v)) ps
+untouched : (k v : ℕ) (F : ℕ → ℕ) (ps : List (ℕ × ℕ)) → EachAfter k v (firsts ps) → AllByRecursion (Counts F) ps → AllByRecursion (Counts (more F v)) ps
 untouched k v F [] a c = tt
 untouched k v F (p ∷ ps) a c =
     let l = a.0 in
     let n : p.0 ≡ v → ⊥ = λ e. let g : key k p.0 ≡ key k v = ap (key k) e in omega arith in
     (c.0 ∙ sym (elsewhere F p.0 v n), untouched k v F ps a.1 c.1)
 
-counted-counts : (k v : ℕ) (F : ℕ → ℕ) (ps : List (ℕ × ℕ)) → Ascends k (firsts ps) → (1 ≤ F v → Mem v (firsts ps)) → All (Counts F) ps → All (Counts (more F v)) (counted k v ps)
+counted-counts : (k v : ℕ) (F : ℕ → ℕ) (ps : List (ℕ × ℕ)) → Ascends k (firsts ps) → (1 ≤ F v → Mem v (firsts ps)) → AllByRecursion (Counts F) ps → AllByRecursion (Counts (more F v)) (counted k v ps)
 counted-counts k v F [] a m c =
     let z : 1 ≤ F v → ⊥ = m in
     let h = here F v in
@@ -138,8 +138,8 @@ counted-counts k v F [] a m c =
 counted-counts k v F (p ∷ ps) a m c = go (eqb v p.0) (ltb (key k v) (key k p.0)) refl refl (counted-counts k v F ps a.1)
   where
     go : (q s : Bool) → eqb v p.0 ≡ q → ltb (key k v) (key k p.0) ≡ s
-        → ((1 ≤ F v → Mem v (firsts ps)) → All (Counts F) ps → All (Counts (more F v)) (counted k v ps))
-        → All (Counts (more F v)) (counted_by q s v p ps (counted k v ps))
+        → ((1 ≤ F v → Mem v (firsts ps)) → AllByRecursion (Counts F) ps → AllByRecursion (Counts (more F v)) (counted k v ps))
+        → AllByRecursion (Counts (more F v)) (counted_by q s v p ps (counted k v ps))
     go true s e f ih =
         let g = eqb-true v p.0 e in
         let h = here F v in
@@ -161,7 +161,7 @@ counted-counts k v F (p ∷ ps) a m c = go (eqb v p.0) (ltb (key k v) (key k p.0
         tail (inr g) = g
 
 -- a value that occurs has what all have
-occurs-all : (P : ℕ → Type 0) (v : ℕ) (vs : List ℕ) → All P vs → 1 ≤ occurs v vs → P v
+occurs-all : (P : ℕ → Type 0) (v : ℕ) (vs : List ℕ) → AllByRecursion P vs → 1 ≤ occurs v vs → P v
 occurs-all P v [] a h = absurd (omega arith)
 occurs-all P v (w ∷ ws) a h = go (eqb v w) refl h (occurs-all P v ws a.1)
   where
@@ -174,20 +174,20 @@ mem-occurs v [] m = absurd m
 mem-occurs v (w ∷ ws) (inl e) = let g : ◌≡◌ {A = ℕ} (cond (eqb v w) 1 0) 1 = ap (λ q. cond q 1 0) (eq-eqb v w e) in omega arith
 mem-occurs v (w ∷ ws) (inr m) = let g = mem-occurs v ws m in omega arith
 
-occurs-self : (vs : List ℕ) → All (λ w. 1 ≤ occurs w vs) vs
+occurs-self : (vs : List ℕ) → AllByRecursion (λ w. 1 ≤ occurs w vs) vs
 occurs-self [] = tt
 occurs-self (v ∷ vs) = (
   mem-occurs v (v ∷ vs) (inl refl),
   all_map (λ w. 1 ≤ occurs w vs) (λ w. 1 ≤ occurs w (v ∷ vs)) (λ w h. omega arith) vs (occurs-self vs),
 )
 
-tally-counts : (k : ℕ) (vs : List ℕ) → All Word vs → All (Counts (λ u. occurs u vs)) (tally k vs)
+tally-counts : (k : ℕ) (vs : List ℕ) → AllByRecursion Word vs → AllByRecursion (Counts (λ u. occurs u vs)) (tally k vs)
 tally-counts k [] a = tt
 tally-counts k (v ∷ vs) a =
     counted-counts k v (λ u. occurs u vs) (tally k vs) (tally-ascends k vs a.1)
     (λ h. occurs-all (λ u. Mem u (firsts (tally k vs))) v vs (tally-mem k vs) h) (tally-counts k vs a.1)
 
-pub tallied : (k : ℕ) (vs : List ℕ) → All Word vs → Tallied k vs (tally k vs)
+pub tallied : (k : ℕ) (vs : List ℕ) → AllByRecursion Word vs → Tallied k vs (tally k vs)
 tallied k vs a =
     record {
       ascends = tally-ascends k vs a;
@@ -202,11 +202,11 @@ tallied k vs a =
 record Best (k : ℕ) (P : ℕ × ℕ → Type 0) (b q : ℕ × ℕ) (ps : List (ℕ × ℕ)) : Type 0 where
   pub has : P q
   pub over : b.1 ≤ q.1
-  pub most : All (λ (p : ℕ × ℕ). p.1 ≤ q.1) ps
+  pub most : AllByRecursion (λ (p : ℕ × ℕ). p.1 ≤ q.1) ps
   pub tie : b.1 ≡ q.1 → key k q.0 ≤ key k b.0
-  pub least : All (λ (p : ℕ × ℕ). p.1 ≡ q.1 → key k q.0 ≤ key k p.0) ps
+  pub least : AllByRecursion (λ (p : ℕ × ℕ). p.1 ≡ q.1 → key k q.0 ≤ key k p.0) ps
 
-best : (k : ℕ) (P : ℕ × ℕ → Type 0) (b : ℕ × ℕ) (ps : List (ℕ × ℕ)) → EachAfter k b.0 (firsts ps) → Ascends k (firsts ps) → P b → All P ps → Best k P b (commonest_after b ps) ps
+best : (k : ℕ) (P : ℕ × ℕ → Type 0) (b : ℕ × ℕ) (ps : List (ℕ × ℕ)) → EachAfter k b.0 (firsts ps) → Ascends k (firsts ps) → P b → AllByRecursion P ps → Best k P b (commonest_after b ps) ps
 best k P b [] f a h hs = record { has = h; over = omega arith; most = tt; tie = λ e. omega arith; least = tt }
 best k P b (p ∷ ps) f a h hs = go (ltb b.1 p.1) refl (best k P p ps a.0 a.1 hs.0 hs.1) (best k P b ps f.1 a.1 h hs.1)
   where
@@ -233,11 +233,11 @@ best k P b (p ∷ ps) f a h hs = go (ltb b.1 p.1) refl (best k P p ps a.0 a.1 hs
           least = ((λ g. let u : key k (commonest_after b ps).0 ≤ key k b.0 = s.tie (omega (arith, s.over, g)) in omega arith), s.least);
         })
 
-all_firsts : (P : ℕ → Type 0) (Q : ℕ × ℕ → Type 0) (ps : List (ℕ × ℕ)) → ((p : ℕ × ℕ) → Q p → P p.0) → All Q ps → All P (firsts ps)
+all_firsts : (P : ℕ → Type 0) (Q : ℕ × ℕ → Type 0) (ps : List (ℕ × ℕ)) → ((p : ℕ × ℕ) → Q p → P p.0) → AllByRecursion Q ps → AllByRecursion P (firsts ps)
 all_firsts P Q [] f a = tt
 all_firsts P Q (p ∷ ps) f a = (f p a.0, all_firsts P Q ps f a.1)
 
-all_both : (P Q : ℕ × ℕ → Type 0) (ps : List (ℕ × ℕ)) → All P ps → All Q ps → All (λ (p : ℕ × ℕ). P p × Q p) ps
+all_both : (P Q : ℕ × ℕ → Type 0) (ps : List (ℕ × ℕ)) → AllByRecursion P ps → AllByRecursion Q ps → AllByRecursion (λ (p : ℕ × ℕ). P p × Q p) ps
 all_both P Q [] a b = tt
 all_both P Q (p ∷ ps) a b = ((a.0, b.0), all_both P Q ps a.1 b.1)
 
@@ -253,7 +253,7 @@ commonest-stands k vs (p ∷ ps) t =
     let r = best k (Counts F) p ps t.ascends.0 t.ascends.1 t.counts.0 t.counts.1 in
     let both = all_both (Counts F) (λ (u : ℕ × ℕ). (u.1 ≤ q.1) × (u.1 ≡ q.1 → key k q.0 ≤ key k u.0)) (p ∷ ps) t.counts
     (all_both (λ (u : ℕ × ℕ). u.1 ≤ q.1) (λ (u : ℕ × ℕ). u.1 ≡ q.1 → key k q.0 ≤ key k u.0) (p ∷ ps) (r.over, r.most) (r.tie, r.least)) in
-    let each : All (λ v. (F v ≤ q.1) × (F v ≡ q.1 → key k q.0 ≤ key k v)) (firsts (p ∷ ps)) =
+    let each : AllByRecursion (λ v. (F v ≤ q.1) × (F v ≡ q.1 → key k q.0 ≤ key k v)) (firsts (p ∷ ps)) =
     all_firsts _ _ (p ∷ ps) (λ u a. (omega (arith, a.0, a.1.0), λ e. a.1.1 (a.0 ∙ e))) both in
     subst (λ (z : ℕ × ℕ). Commonest k vs z.0 z.1) (sym start)
     (record {
@@ -268,7 +268,7 @@ commonest-stands k vs (p ∷ ps) t =
 
 -- ---- the ends
 
-least-mem : (k v : ℕ) (vs : List ℕ) → key k v ≤ key k (greatest k) → All (λ w. key k w ≤ key k (greatest k)) vs → Mem (least_of k (v ∷ vs)) (v ∷ vs)
+least-mem : (k v : ℕ) (vs : List ℕ) → key k v ≤ key k (greatest k) → AllByRecursion (λ w. key k w ≤ key k (greatest k)) vs → Mem (least_of k (v ∷ vs)) (v ∷ vs)
 least-mem k v [] h a = go (leb (key k v) (key k (greatest k))) refl
   where
     go : (b : Bool) → leb (key k v) (key k (greatest k)) ≡ b → Mem (cond b v (greatest k)) (v ∷ [])
@@ -280,7 +280,7 @@ least-mem k v (w ∷ ws) h a = go (leb (key k v) (key k (least_of k (w ∷ ws)))
     go true m = inl refl
     go false m = inr m
 
-greatest-mem : (k v : ℕ) (vs : List ℕ) → key k (least k) ≤ key k v → All (λ w. key k (least k) ≤ key k w) vs → Mem (greatest_of k (v ∷ vs)) (v ∷ vs)
+greatest-mem : (k v : ℕ) (vs : List ℕ) → key k (least k) ≤ key k v → AllByRecursion (λ w. key k (least k) ≤ key k w) vs → Mem (greatest_of k (v ∷ vs)) (v ∷ vs)
 greatest-mem k v [] h a = go (leb (key k (least k)) (key k v)) refl
   where
     go : (b : Bool) → leb (key k (least k)) (key k v) ≡ b → Mem (cond b v (least k)) (v ∷ [])
@@ -293,23 +293,23 @@ greatest-mem k v (w ∷ ws) h a = go (leb (key k (greatest_of k (w ∷ ws))) (ke
     go false m = inr m
 
 -- what bounds the rest, and v, bounds all
-least-low : (k : ℕ) (vs : List ℕ) → All (λ v. key k (least_of k vs) ≤ key k v) vs
+least-low : (k : ℕ) (vs : List ℕ) → AllByRecursion (λ v. key k (least_of k vs) ≤ key k v) vs
 least-low k [] = tt
 least-low k (v ∷ vs) = go (leb (key k v) (key k (least_of k vs))) refl (least-low k vs)
   where
-    go : (b : Bool) → leb (key k v) (key k (least_of k vs)) ≡ b → All (λ w. key k (least_of k vs) ≤ key k w) vs → All (λ w. key k (cond b v (least_of k vs)) ≤ key k w) (v ∷ vs)
+    go : (b : Bool) → leb (key k v) (key k (least_of k vs)) ≡ b → AllByRecursion (λ w. key k (least_of k vs) ≤ key k w) vs → AllByRecursion (λ w. key k (cond b v (least_of k vs)) ≤ key k w) (v ∷ vs)
     go true e a = let l = leb-true _ _ e in (omega arith, all_map (λ w. key k (least_of k vs) ≤ key k w) (λ w. key k v ≤ key k w) (λ w h. omega arith) vs a)
     go false e a = let l = leb-false _ _ e in (omega arith, a)
 
-greatest-high : (k : ℕ) (vs : List ℕ) → All (λ v. key k v ≤ key k (greatest_of k vs)) vs
+greatest-high : (k : ℕ) (vs : List ℕ) → AllByRecursion (λ v. key k v ≤ key k (greatest_of k vs)) vs
 greatest-high k [] = tt
 greatest-high k (v ∷ vs) = go (leb (key k (greatest_of k vs)) (key k v)) refl (greatest-high k vs)
   where
-    go : (b : Bool) → leb (key k (greatest_of k vs)) (key k v) ≡ b → All (λ w. key k w ≤ key k (greatest_of k vs)) vs → All (λ w. key k w ≤ key k (cond b v (greatest_of k vs))) (v ∷ vs)
+    go : (b : Bool) → leb (key k (greatest_of k vs)) (key k v) ≡ b → AllByRecursion (λ w. key k w ≤ key k (greatest_of k vs)) vs → AllByRecursion (λ w. key k w ≤ key k (cond b v (greatest_of k vs))) (v ∷ vs)
     go true e a = let l = leb-true _ _ e in (omega arith, all_map (λ w. key k w ≤ key k (greatest_of k vs)) (λ w. key k w ≤ key k v) (λ w h. omega arith) vs a)
     go false e a = let l = leb-false _ _ e in (omega arith, a)
 
-all_two : (P Q : ℕ → Type 0) (xs : List ℕ) → All P xs → All Q xs → All (λ x. P x × Q x) xs
+all_two : (P Q : ℕ → Type 0) (xs : List ℕ) → AllByRecursion P xs → AllByRecursion Q xs → AllByRecursion (λ x. P x × Q x) xs
 all_two P Q [] a b = tt
 all_two P Q (x ∷ xs) a b = ((a.0, b.0), all_two P Q xs a.1 b.1)
 
@@ -330,16 +330,16 @@ fits k w e =
     let p = parts _ _ _ e in
     record { word = ltb-true _ _ p.0; low = leb-true _ _ p.1; high = leb-true _ _ p.2 }
 
-clean-fits : (k i : ℕ) (rs : List Row) → stray_from k i rs ≡ None → All (Fits k) (values_of rs)
+clean-fits : (k i : ℕ) (rs : List Row) → stray_from k i rs ≡ None → AllByRecursion (Fits k) (values_of rs)
 clean-fits k i [] e = tt
 clean-fits k i (None ∷ rs) e = clean-fits k (suc i) rs e
 clean-fits k i (Some w ∷ rs) e = go (in_kind k w) refl e (clean-fits k (suc i) rs)
   where
-    go : (b : Bool) → in_kind k w ≡ b → stray_by b i (stray_from k (suc i) rs) ≡ None → (stray_from k (suc i) rs ≡ None → All (Fits k) (values_of rs)) → All (Fits k) (w ∷ values_of rs)
+    go : (b : Bool) → in_kind k w ≡ b → stray_by b i (stray_from k (suc i) rs) ≡ None → (stray_from k (suc i) rs ≡ None → AllByRecursion (Fits k) (values_of rs)) → AllByRecursion (Fits k) (w ∷ values_of rs)
     go true f g ih = (fits k w f, ih g)
     go false f g ih = absurd (let z : ◌≡◌ {A = ℕ} 0 1 = cc in omega arith)
 
-ends-stand : (k : ℕ) (vs : List ℕ) → All (Fits k) vs → (vs ≡ [] → ⊥) → Ends k vs (least_of k vs) (greatest_of k vs)
+ends-stand : (k : ℕ) (vs : List ℕ) → AllByRecursion (Fits k) vs → (vs ≡ [] → ⊥) → Ends k vs (least_of k vs) (greatest_of k vs)
 ends-stand k [] a n = absurd (n refl)
 ends-stand k (v ∷ vs) a n =
     record {
@@ -350,10 +350,10 @@ ends-stand k (v ∷ vs) a n =
 
 -- ---- all of it
 
-info-right : (k : ℕ) (vs : List ℕ) → All Word vs → PartRight k vs (Some (distinct_of (tally k vs)))
+info-right : (k : ℕ) (vs : List ℕ) → AllByRecursion Word vs → PartRight k vs (Some (distinct_of (tally k vs)))
 info-right k vs a = let t = tallied k vs a in (t, commonest-stands k vs (tally k vs) t)
 
-part_right : (want : Bool) (k : ℕ) (rs : List Row) (vs : List ℕ) → All Word vs → PartRight k vs (distinct_part want k rs vs)
+part_right : (want : Bool) (k : ℕ) (rs : List Row) (vs : List ℕ) → AllByRecursion Word vs → PartRight k vs (distinct_part want k rs vs)
 part_right want k [] vs a = tt
 part_right want k (r ∷ rs) [] a = info-right k [] a
 part_right true k (r ∷ rs) (v ∷ vs) a = info-right k (v ∷ vs) a

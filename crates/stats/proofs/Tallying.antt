@@ -1,6 +1,6 @@
 -- The tally by sorting keys and counting runs.
 use Rattle.std.proofs.Common.{◌≡◌, ℕ, suc, ◌+◌, ◌^◌, ◌<◌, Bool, true, false, cond, eqb, ltb, ◌⊎◌, List, [], ◌∷◌, map, sym, refl, ap, ◌∙◌, inl, inr, add-zero, zero-add, arith}
-use Rattle.std.specs.List.{AllByRecursion as All, zip}
+use Rattle.std.specs.List.{AllByRecursion, zip}
 use Rattle.std.proofs.lemmas.Bool.{cases_order, lt-ltb, le-ltb, eq-eqb, ne_eqb}
 use Rattle.column.specs.Kinds.{key_by, key, signed}
 use Rattle.stats.specs.Stats.{counted_by, counted, tally}
@@ -139,7 +139,7 @@ firsts-counted v (p ∷ ps) h f = go (eqb v p.0) (ltb v p.0) (firsts-counted v p
     go false true g = (h, f)
     go false false g = (f.0, g)
 
-firsts-tally : (vs : List ℕ) → All Word vs → Firsts (tally 0 vs)
+firsts-tally : (vs : List ℕ) → AllByRecursion Word vs → Firsts (tally 0 vs)
 firsts-tally [] a = tt
 firsts-tally (v ∷ vs) a = firsts-counted v (tally 0 vs) a.0 (firsts-tally vs a.1)
 
@@ -168,18 +168,18 @@ turned-counted k v (p ∷ ps) h f =
     go false true ih = ap (λ z. (z, 1) ∷ (key k p.0, p.1) ∷ turned (signed k) ps) (key_back (signed k) v h)
     go false false ih = ap (λ z. (key k p.0, p.1) ∷ z) ih
 
-words-turned : (s : Bool) (vs : List ℕ) → All Word vs → All Word (map (key_by s) vs)
+words-turned : (s : Bool) (vs : List ℕ) → AllByRecursion Word vs → AllByRecursion Word (map (key_by s) vs)
 words-turned s [] a = tt
 words-turned s (v ∷ vs) a = (key-word s v a.0, words-turned s vs a.1)
 
-tally-turned : (k : ℕ) (vs : List ℕ) → All Word vs → turned (signed k) (tally 0 (map (key k) vs)) ≡ tally k vs
+tally-turned : (k : ℕ) (vs : List ℕ) → AllByRecursion Word vs → turned (signed k) (tally 0 (map (key k) vs)) ≡ tally k vs
 tally-turned k [] a = refl
 tally-turned k (v ∷ vs) a =
     turned-counted k v (tally 0 (map (key k) vs)) a.0 (firsts-tally (map (key k) vs) (words-turned (signed k) vs a.1))
     ∙ ap (counted k v) (tally-turned k vs a.1)
 
 -- sort the keys, count the runs, turn the keys back
-pub tally-is : (k : ℕ) (s : Bool) (vs hs ls : List ℕ) → signed k ≡ s → All (λ w. w < 2 ^ 64) vs → hs ≡ heads (ascending (map (key_by s) vs)) → ls ≡ lens (ascending (map (key_by s) vs)) → zip (map (key_by s) hs) ls ≡ tally k vs
+pub tally-is : (k : ℕ) (s : Bool) (vs hs ls : List ℕ) → signed k ≡ s → AllByRecursion (λ w. w < 2 ^ 64) vs → hs ≡ heads (ascending (map (key_by s) vs)) → ls ≡ lens (ascending (map (key_by s) vs)) → zip (map (key_by s) hs) ls ≡ tally k vs
 tally-is k s vs hs ls e a p q =
     let ks = map (key_by s) vs in
     zipped-turned s hs ls

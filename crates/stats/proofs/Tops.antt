@@ -2,7 +2,7 @@
 use Rattle.std.proofs.Common.{◌≡◌, ℕ, ◌+◌, ◌<◌, ◌≤◌, Bool, true, false, cond, eqb, ltb, List, [], ◌∷◌, length, get_or, drop, sym, refl, ap, ◌∙◌, subst, arith}
 use Rattle.std.proofs.lemmas.List.{drop_more, drop_all}
 use Rattle.stats.specs.Stats.{commonest_after}
-use Rattle.std.specs.List.{zip, AllByRecursion as All}
+use Rattle.std.specs.List.{zip, AllByRecursion}
 use Rattle.stats.specs.Table.{lens, lens_from}
 use Rattle.stats.specs.Stats.{commonest}
 
@@ -31,19 +31,19 @@ pub top-all : (vs cs : List ℕ) (i : ℕ) (b goal : ℕ × ℕ) → length vs �
 top-all vs cs i b goal h k = rw (drop_all i vs h) at k
 
 -- no count is above the number of values
-lens-le : (cur n : ℕ) (xs : List ℕ) (m : ℕ) → n + length xs ≤ m → All (λ c. c ≤ m) (lens_from cur n xs)
+lens-le : (cur n : ℕ) (xs : List ℕ) (m : ℕ) → n + length xs ≤ m → AllByRecursion (λ c. c ≤ m) (lens_from cur n xs)
 lens-le cur n [] m h = (omega (arith, h), tt)
 lens-le cur n (x ∷ xs) m h = go (eqb x cur) (lens-le cur (n + 1) xs m) (lens-le x 1 xs m)
   where
-    go : (b : Bool) → ((n + 1) + length xs ≤ m → All (λ c. c ≤ m) (lens_from cur (n + 1) xs)) → (1 + length xs ≤ m → All (λ c. c ≤ m) (lens_from x 1 xs)) → All (λ c. c ≤ m) (cond b (lens_from cur (n + 1) xs) (n ∷ lens_from x 1 xs))
+    go : (b : Bool) → ((n + 1) + length xs ≤ m → AllByRecursion (λ c. c ≤ m) (lens_from cur (n + 1) xs)) → (1 + length xs ≤ m → AllByRecursion (λ c. c ≤ m) (lens_from x 1 xs)) → AllByRecursion (λ c. c ≤ m) (cond b (lens_from cur (n + 1) xs) (n ∷ lens_from x 1 xs))
     go true one two = one (omega (arith, h))
     go false one two = (omega (arith, h), two (omega (arith, h)))
 
-all-lens : (xs : List ℕ) → All (λ c. c ≤ length xs) (lens xs)
+all-lens : (xs : List ℕ) → AllByRecursion (λ c. c ≤ length xs) (lens xs)
 all-lens [] = tt
 all-lens (x ∷ xs) = lens-le x 1 xs (length (x ∷ xs)) (omega arith)
 
-after-le : (m : ℕ) (b : ℕ × ℕ) (vs cs : List ℕ) → b.1 ≤ m → All (λ c. c ≤ m) cs → (commonest_after b (zip vs cs)).1 ≤ m
+after-le : (m : ℕ) (b : ℕ × ℕ) (vs cs : List ℕ) → b.1 ≤ m → AllByRecursion (λ c. c ≤ m) cs → (commonest_after b (zip vs cs)).1 ≤ m
 after-le m b [] cs h a = h
 after-le m b (v ∷ vs) [] h a = h
 after-le m b (v ∷ vs) (c ∷ cs) h a = go (ltb b.1 c) refl (after-le m (v, c) vs cs a.0 a.1) (after-le m b vs cs h a.1)

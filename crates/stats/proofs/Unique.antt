@@ -1,6 +1,6 @@
 -- An ascending list is known by how often each value stands in it: what a sort gives.
 use Rattle.std.proofs.Common.{◌≡◌, ℕ, suc, ◌+◌, ◌<◌, ◌≤◌, Bool, true, false, cond, eqb, ltb, List, [], ◌∷◌, sum_by, sym, refl, ap, ◌∙◌, arith, ltb-false, ltb-true, eq-eqb, ne_eqb}
-use Rattle.std.specs.List.{AllByRecursion as All}
+use Rattle.std.specs.List.{AllByRecursion}
 use Rattle.std.proofs.ByRecursion.{All-from_get_or}
 use Rattle.std.proofs.lemmas.List.Sums.{sum_by-cons}
 use Rattle.std.proofs.lemmas.List.Sorted.{sum_by-IsPermutation}
@@ -11,17 +11,17 @@ use Rattle.stats.specs.Laws.{occurs}
 -- each element is at most those after it
 abbrev pub Up : List ℕ → Type 0
 Up [] = Unit {0}
-Up (x ∷ xs) = All (λ y. x ≤ y) xs × Up xs
+Up (x ∷ xs) = AllByRecursion (λ y. x ≤ y) xs × Up xs
 
-all_insert : (P : ℕ → Type 0) (x : ℕ) (ys : List ℕ) → P x → All P ys → All P (insert x ys)
+all_insert : (P : ℕ → Type 0) (x : ℕ) (ys : List ℕ) → P x → AllByRecursion P ys → AllByRecursion P (insert x ys)
 all_insert P x [] p a = (p, tt)
 all_insert P x (y ∷ ys) p a = go (ltb y x) (all_insert P x ys p a.1)
   where
-    go : (b : Bool) → All P (insert x ys) → All P (cond b (y ∷ insert x ys) (x ∷ y ∷ ys))
+    go : (b : Bool) → AllByRecursion P (insert x ys) → AllByRecursion P (cond b (y ∷ insert x ys) (x ∷ y ∷ ys))
     go true r = (a.0, r)
     go false r = (p, a)
 
-all-le : (x y : ℕ) (ys : List ℕ) → x ≤ y → All (λ z. y ≤ z) ys → All (λ z. x ≤ z) ys
+all-le : (x y : ℕ) (ys : List ℕ) → x ≤ y → AllByRecursion (λ z. y ≤ z) ys → AllByRecursion (λ z. x ≤ z) ys
 all-le x y [] h a = tt
 all-le x y (z ∷ zs) h a = (omega (arith, h, a.0), all-le x y zs h a.1)
 
@@ -50,21 +50,21 @@ occurs-ascending v [] = refl
 occurs-ascending v (x ∷ xs) = occurs-insert v x (ascending xs) ∙ omega (arith, occurs-ascending v xs)
 
 -- a value below all elements does not stand in the list
-occurs-below : (v : ℕ) (xs : List ℕ) → All (λ y. v < y) xs → occurs v xs ≡ 0
+occurs-below : (v : ℕ) (xs : List ℕ) → AllByRecursion (λ y. v < y) xs → occurs v xs ≡ 0
 occurs-below v [] a = refl
 occurs-below v (x ∷ xs) a = let n : eqb v x ≡ false = ne_eqb v x (λ e. omega (arith, e, a.0)) in rw n (omega (arith, occurs-below v xs a.1))
 
 occurs-self : (x : ℕ) (xs : List ℕ) → occurs x (x ∷ xs) ≡ 1 + occurs x xs
 occurs-self x xs = let t : eqb x x ≡ true = eq-eqb x x refl in rw t
 
-all-lt : (x y : ℕ) (ys : List ℕ) → x < y → All (λ z. y ≤ z) ys → All (λ z. x < z) (y ∷ ys)
+all-lt : (x y : ℕ) (ys : List ℕ) → x < y → AllByRecursion (λ z. y ≤ z) ys → AllByRecursion (λ z. x < z) (y ∷ ys)
 all-lt x y ys h a = (h, weak ys a)
   where
-    weak : (zs : List ℕ) → All (λ z. y ≤ z) zs → All (λ z. x < z) zs
+    weak : (zs : List ℕ) → AllByRecursion (λ z. y ≤ z) zs → AllByRecursion (λ z. x < z) zs
     weak [] b = tt
     weak (z ∷ zs) b = (omega (arith, h, b.0), weak zs b.1)
 
-not-below : (x y : ℕ) (xs ys : List ℕ) → All (λ z. y ≤ z) ys → ((v : ℕ) → occurs v (x ∷ xs) ≡ occurs v (y ∷ ys)) → x < y → ⊥
+not-below : (x y : ℕ) (xs ys : List ℕ) → AllByRecursion (λ z. y ≤ z) ys → ((v : ℕ) → occurs v (x ∷ xs) ≡ occurs v (y ∷ ys)) → x < y → ⊥
 not-below x y xs ys a t h = omega (arith, t x, occurs-self x xs, occurs-below x (y ∷ ys) (all-lt x y ys h a))
 
 -- an ascending list is known by how often each value stands in it

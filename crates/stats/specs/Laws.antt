@@ -1,7 +1,7 @@
 -- What statistics say of a column, in words of their own: which values stand in the table, which is the commonest, what the ends
 -- are.
 use Rattle.std.specs.Prelude.{◌≡◌, ℕ, ◌+◌, ◌^◌, ◌<◌, ◌≤◌, cond, List, [], ◌∷◌, length, Some, None, Option, ◌==◌, ◌≢◌}
-use Rattle.std.specs.List.{AllByRecursion as All}
+use Rattle.std.specs.List.{AllByRecursion}
 use Rattle.column.specs.Kinds.{key}
 use Rattle.column.specs.Columns.{Column, values}
 use Rattle.stats.specs.Stats.{Distinct, Stats, firsts}
@@ -24,7 +24,7 @@ Ascends k (v ∷ vs) = EachAfter k v vs × Ascends k vs
 -- the pairs ascend strictly; each is a value with the number of its occurrences; all values stand there, and nothing else
 pub record Tallied (k : ℕ) (vs : List ℕ) (ps : List (ℕ × ℕ)) : Type 0 where
   pub ascends : Ascends k (firsts ps)
-  pub counts : All (λ (p : ℕ × ℕ). p.1 ≡ occurs p.0 vs) ps
+  pub counts : AllByRecursion (λ (p : ℕ × ℕ). p.1 ≡ occurs p.0 vs) ps
   pub all : (v : ℕ) → 1 ≤ occurs v vs → 1 ≤ occurs v (firsts ps)
   pub only : (v : ℕ) → 1 ≤ occurs v (firsts ps) → 1 ≤ occurs v vs
 
@@ -38,7 +38,7 @@ pub record Commonest (k : ℕ) (vs : List ℕ) (top n : ℕ) : Type 0 where
 pub record Ends (k : ℕ) (vs : List ℕ) (low high : ℕ) : Type 0 where
   pub least : 1 ≤ occurs low vs
   pub greatest : 1 ≤ occurs high vs
-  pub between : All (λ v. (key k low ≤ key k v) × (key k v ≤ key k high)) vs
+  pub between : AllByRecursion (λ v. (key k low ≤ key k v) × (key k v ≤ key k high)) vs
 
 abbrev pub PartRight : ℕ → List ℕ → Option Distinct → Type 0
 PartRight k vs None = Unit {0}

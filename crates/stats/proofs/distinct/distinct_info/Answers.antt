@@ -1,5 +1,5 @@
 use Rattle.std.proofs.Common.{◌≡◌, ◌+◌, ◌-◌, ◌^◌, ◌<◌, ◌≤◌, length, take, arith, rules}
-use Rattle.std.specs.List.{AllByRecursion as All}
+use Rattle.std.specs.List.{AllByRecursion}
 use Rattle.std.proofs.ByRecursion.{All-from_get_or}
 use Rattle.column.specs.Kinds.{number_of}
 use Rattle.stats.proofs.Infos.{info-in, info-most, info-beyond, all_take}
@@ -21,7 +21,7 @@ returns g c =
     let lt : length ts ≡ n = omega arith in
     let lw : length ws ≡ n = omega arith in
     let lp : length part ≡ num - 0 = omega arith in
-    let words : All (λ w. w < 2 ^ 64) (take n t0) = all_take (λ w. w < 2 ^ 64) n t0 (All-from_get_or (λ w. w < 2 ^ 64) t0 0 (λ i h. search rules)) in
+    let words : AllByRecursion (λ w. w < 2 ^ 64) (take n t0) = all_take (λ w. w < 2 ^ 64) n t0 (All-from_get_or (λ w. w < 2 ^ 64) t0 0 (λ i h. search rules)) in
     record {
       stands = info-in g.T.Whole.cell (number_of c.args.kind) g.T.Whole.minus t0 ts ws t3 part _ _ n (n - 0) num (num - 0) (n + num - n) c.commonest-best.result _
           c.requires.order words m mm lm split.few (omega arith) lt lw c.turn.ensures c.sort_keys.ensures split.vals split.counts c.turn-2.ensures c.commonest-best.ensures c.of_cell.ensures;

@@ -1,5 +1,5 @@
 use Rattle.std.proofs.Common.{◌+◌, ◌^◌, ◌<◌, ap, ◌∙◌, rules}
-use Rattle.std.specs.List.{AllByRecursion as All}
+use Rattle.std.specs.List.{AllByRecursion}
 use Rattle.std.proofs.ByRecursion.{All-from_get_or}
 use Rattle.stats.specs.Stats.{changes}
 use Rattle.stats.specs.Blocks.{block_values, shown}
@@ -13,6 +13,6 @@ returns g c =
     let cells = c.args.cells.now in
     let vs = block_values ws cells in
     let head = g.T.Whole.cell c.new-state.result.prev in
-    let words : All (λ w. w < 2 ^ 64) ws = All-from_get_or (λ w. w < 2 ^ 64) ws 0 (λ i h. search rules) in
+    let words : AllByRecursion (λ w. w < 2 ^ 64) ws = All-from_get_or (λ w. w < 2 ^ 64) ws 0 (λ i h. search rules) in
     c.count_runs.ensures.runs ∙ ap (λ z. z + changes head vs) c.new-state.ensures.runs
     ∙ runs-first c.args.count head vs (shown ws cells) (rows-link ws cells words) c.requires.count c.if-count-eq0.false (ap g.T.Whole.cell c.new-state.ensures.prev ∙ c.of_cell.ensures ∙ c.requires.first)

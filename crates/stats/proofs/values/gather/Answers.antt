@@ -1,5 +1,5 @@
 use Rattle.std.proofs.Common.{◌*◌, ◌^◌, ◌<◌, length, refl, ◌∙◌, arith, rules}
-use Rattle.std.specs.List.{AllByRecursion as All}
+use Rattle.std.specs.List.{AllByRecursion}
 use Rattle.std.proofs.ByRecursion.{All-from_get_or}
 use Rattle.stats.proofs.RowsLink.{rows-link}
 use Rattle.stats.proofs.Blocking.{block-end}
@@ -20,7 +20,7 @@ loop-b-preserved c =
 pub returns : goal.returns
 returns c =
     let ws = c.args.words.now in
-    let words : All (λ w. w < 2 ^ 64) ws = All-from_get_or (λ w. w < 2 ^ 64) ws 0 (λ i h. search rules) in
+    let words : AllByRecursion (λ w. w < 2 ^ 64) ws = All-from_get_or (λ w. w < 2 ^ 64) ws 0 (λ i h. search rules) in
     record {
       front = got-all c.loop-b.invariant c.loop-b-test.false ∙ rows-link ws c.args.cells.now words;
       fits = c.loop-b.invariant.within;
