@@ -2,7 +2,7 @@
 """Writes the list of the original's statistics that the program `statslist` replays.
 
     make_stats_list.py ORACLE > crates/statslist/stdin
-    make_stats_list.py ORACLE 50 | target/bin/statslist     # fifty such lists, each from another seed
+    make_stats_list.py ORACLE 50 | crates/statslist/out/statslist     # fifty such lists, each from another seed
 
 ORACLE is a driver over the original's own files (docs/DIFFERENCES.md, "What was compared by running"). It answers one line for
 each command: `stats KIND WISH CELLS`, `span KIND CELLS` (max_minus_min) and `facts KIND CELLS` (min_is_zero, min_is_negative,

@@ -1,7 +1,9 @@
 // Several schemes, called by number from 0 in bank order.
 #![tactic(auto)]
 
-ghost use Rattle.std.specs.Prelude.{◌≡◌, ℕ, ◌<◌, ◌≤◌, min, true, List, [], ◌∷◌, length, Some, None};
+ghost use Rattle.std.specs.Prelude.{◌≡◌, ℕ, ◌<◌, ◌≤◌, min, true, false, List, [], ◌∷◌, length, Some, None, Err};
+ghost use Rattle.scheme.specs.declared.estimate.CompressionEstimate.TheVariants.{Verdict};
+ghost use Rattle.scheme.specs.declared.estimate.EstimateVerdict.TheVariants.{Skip};
 ghost use Rattle.column.specs.Columns.{seen, Sound, CleanView};
 ghost use Rattle.column.specs.Kinds.{number_of};
 ghost use Rattle.packing.specs.Packing.{written};
@@ -120,7 +122,7 @@ pub trait Bank {
     ghost all: { (b : Self) → AllKeep (meanings b) };
 }
 
-// No scheme.
+// No scheme: no number is below the count, and whatever number is asked for, the answer is one that takes nothing and writes nothing.
 #[derive(Clone, Copy)]
 pub struct Empty {}
 
@@ -133,28 +135,40 @@ impl Bank for Empty {
         0
     }
 
-    fn id_at(&self, _i: usize) -> u8 {
-        unreachable()
+    fn id_at(&self, _i: usize) -> u8
+        ensures { result ≡ 0 }
+    {
+        0
     }
 
-    fn takes_at(&self, _i: usize, _kind: Kind) -> bool {
-        unreachable()
+    fn takes_at(&self, _i: usize, _kind: Kind) -> bool
+        ensures { result ≡ false }
+    {
+        false
     }
 
-    fn wants_at(&self, _i: usize) -> bool {
-        unreachable()
+    fn wants_at(&self, _i: usize) -> bool
+        ensures { result ≡ false }
+    {
+        false
     }
 
-    fn num_children_at(&self, _i: usize) -> usize {
-        unreachable()
+    fn num_children_at(&self, _i: usize) -> usize
+        ensures { result ≡ 0 }
+    {
+        0
     }
 
-    fn descendant_exclusions_at(&self, _i: usize) -> &[DescendantExclusion<'_>] {
-        unreachable()
+    fn descendant_exclusions_at(&self, _i: usize) -> &[DescendantExclusion<'_>]
+        ensures { push_seen result.now ≡ [] }
+    {
+        &[]
     }
 
-    fn ancestor_exclusions_at(&self, _i: usize) -> &[AncestorExclusion<'_>] {
-        unreachable()
+    fn ancestor_exclusions_at(&self, _i: usize) -> &[AncestorExclusion<'_>]
+        ensures { pull_seen result.now ≡ [] }
+    {
+        &[]
     }
 
     fn expected_compression_ratio_at(
@@ -162,9 +176,12 @@ impl Bank for Empty {
         _i: usize,
         _col: ArrayAndStats<'_>,
         _ctx: &CompressorContext,
-        _mem: &mut [u64],
-    ) -> CompressionEstimate {
-        unreachable()
+        mem: &mut [u64],
+    ) -> CompressionEstimate
+        ensures answer { result ≡ Verdict Skip }
+        ensures lent { mem.new ≡ mem.old }
+    {
+        CompressionEstimate::Verdict(EstimateVerdict::Skip)
     }
 
     fn verdict_at(
@@ -173,38 +190,48 @@ impl Bank for Empty {
         _col: ArrayAndStats<'_>,
         _ctx: &CompressorContext,
         _mark: Option<EstimateScore>,
-        _mem: &mut [u64],
-    ) -> EstimateVerdict {
-        unreachable()
+        mem: &mut [u64],
+    ) -> EstimateVerdict
+        ensures answer { result ≡ Skip }
+        ensures lent { mem.new ≡ mem.old }
+    {
+        EstimateVerdict::Skip
     }
 
     fn shape_at(
         &self,
         _i: usize,
         _array: View<'_>,
-        _cells0: &mut [u64],
-        _words0: &mut [u64],
-        _cells1: &mut [u64],
-        _words1: &mut [u64],
-        _mem: &mut [u64],
-    ) -> Result<Shape, u32> {
-        unreachable()
+        cells0: &mut [u64],
+        words0: &mut [u64],
+        cells1: &mut [u64],
+        words1: &mut [u64],
+        mem: &mut [u64],
+    ) -> Result<Shape, u32>
+        ensures answer { result ≡ Err 0 }
+        ensures child0 { (cells0.new ≡ cells0.old) × (words0.new ≡ words0.old) }
+        ensures child1 { (cells1.new ≡ cells1.old) × (words1.new ≡ words1.old) }
+        ensures lent { mem.new ≡ mem.old }
+    {
+        Err(0)
     }
 
-    fn payload_at(&self, _i: usize, _array: View<'_>, _mem: &mut [u64], _out: &mut [u8]) {
-        unreachable()
-    }
+    fn payload_at(&self, _i: usize, _array: View<'_>, mem: &mut [u64], out: &mut [u8])
+        ensures bytes { out.new ≡ out.old }
+        ensures lent { mem.new ≡ mem.old }
+    {}
 
     fn join_at(
         &self,
         _i: usize,
         _stored: Stored<'_>,
-        _mem: &mut [u64],
-        _cells: &mut [u64],
-        _words: &mut [u64],
-    ) {
-        unreachable()
-    }
+        mem: &mut [u64],
+        cells: &mut [u64],
+        words: &mut [u64],
+    )
+        ensures rows { (cells.new ≡ cells.old) × (words.new ≡ words.old) }
+        ensures lent { mem.new ≡ mem.old }
+    {}
 }
 
 // A scheme before the others.

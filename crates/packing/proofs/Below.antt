@@ -4,9 +4,9 @@ use Rattle.std.proofs.lemmas.List.{length-map}
 use Rattle.packing.specs.Packing.{low_bits, Below}
 
 -- as of what a slice holds
-pub below-get_d : (b : ℕ) (xs : List ℕ) → ((i : ℕ) → get_or xs i 0 < b) → Below b xs
-below-get_d b [] h = tt
-below-get_d b (x ∷ xs) h = (h 0, below-get_d b xs (λ i. h (suc i)))
+pub below-get_or : (b : ℕ) (xs : List ℕ) → ((i : ℕ) → get_or xs i 0 < b) → Below b xs
+below-get_or b [] h = tt
+below-get_or b (x ∷ xs) h = (h 0, below-get_or b xs (λ i. h (suc i)))
 
 pub below-append : (b : ℕ) (xs ys : List ℕ) → Below b xs → Below b ys → Below b (xs ++ ys)
 below-append b [] ys p q = q

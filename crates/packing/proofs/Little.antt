@@ -3,7 +3,7 @@ use Rattle.std.proofs.Common.{◌≡◌, ℕ, suc, ◌+◌, ◌-◌, ◌*◌, �
 use native.Mathlib.Nat.{pow-le-pow_right}
 use Rattle.std.proofs.lemmas.List.{take_all, drop_all, drop_more}
 use Rattle.packing.specs.Packing.{joined, Below}
-use Rattle.packing.proofs.Below.{below-get_d, below-drop}
+use Rattle.packing.proofs.Below.{below-get_or, below-drop}
 use Rattle.packing.proofs.Digits.{joined-lt}
 
 next : (s : List ℕ) (a n : ℕ) → a < length s → joined 256 (take (suc n) (drop a s)) ≡ joined 256 (take n (drop (a + 1) s)) * 256 + get_or s a 0
@@ -43,7 +43,7 @@ tail_more s i h l =
 pub tail-fits : (s : List ℕ) (i : ℕ) → ((k : ℕ) → get_or s k 0 < 256) → 0 < i → i ≤ length s → length s ≤ (i - 1) + 8
     → joined 256 (drop i s) * 256 + get_or s (i - 1) 0 < 2 ^ 64
 tail-fits s i t h l few =
-    let u : Below 256 (drop (i - 1) s) = below-drop 256 (i - 1) s (below-get_d 256 s t) in
+    let u : Below 256 (drop (i - 1) s) = below-drop 256 (i - 1) s (below-get_or 256 s t) in
     let m : length (drop (i - 1) s) ≤ 8 = rw length-drop (omega arith) in
     rw (sym (tail_more s i h l)) (lt_of_lt_of_le (joined-lt 256 (drop (i - 1) s) u) (pow-le-pow_right (zero-lt-suc 255) m))
 
