@@ -20,7 +20,7 @@ const FIRST_ID: u8 = 16;
 
 // Refused where there are too many schemes or levels, or the ids do not fit.
 pub fn open_refused<B: Bank>(bank: &B, levels: usize) -> Option<Refusal>
-    ensures { (d : Source) → result ≡ open_refused (record { opening = record { bank = B.Bank.meanings bank.entry.now; source = d }; levels = levels }) }
+    ensures { (d : Source) → result ≡ open_refused (record { opening = record { bank = B.Bank.meanings bank.now; source = d }; levels = levels }) }
 {
     if bank.count() > MAX_SCHEMES || levels > MAX_LEVELS || !ids_fit(bank) {
         return Some(Refusal::BadOpening);
