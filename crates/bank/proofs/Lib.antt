@@ -1,1 +1,2 @@
-pub mod Finding
+mod Finding
+pub mod Places

@@ -1,26 +1,30 @@
 // Several schemes, called by number from 0 in bank order.
 #![tactic(auto)]
 
-ghost use Rattle.std.specs.Prelude.{◌≡◌, ℕ, ◌<◌, ◌≤◌, min, true, false, List, [], ◌∷◌, length, Some, None, Err};
+pub mod small;
+
+ghost use Rattle.std.specs.Prelude.{◌≡◌, ℕ, ◌<◌, ◌≤◌, min, true, false, List, [], ◌∷◌, length, Err};
 ghost use Rattle.scheme.specs.declared.estimate.CompressionEstimate.TheVariants.{Verdict};
 ghost use Rattle.scheme.specs.declared.estimate.EstimateVerdict.TheVariants.{Skip};
-ghost use Rattle.column.specs.Columns.{seen, Sound, CleanView};
+ghost use Rattle.column.specs.Columns.{seen};
 ghost use Rattle.column.specs.Kinds.{number_of};
 ghost use Rattle.packing.specs.Packing.{written};
-ghost use Rattle.scheme.specs.Banks.{AllKeep, at, find_from};
+ghost use Rattle.scheme.specs.Banks.{AllKeep, at};
 ghost use Rattle.scheme.specs.Meaning.{Meaning};
-ghost use Rattle.scheme.specs.Memory.{spare, history_of, stats_in, Measured, Room, outline, shape_seen, payload_in, parts_seen, held, Joinable};
+ghost use Rattle.scheme.specs.Memory.{spare, history_of, stats_in, Room, outline, shape_seen, payload_in, parts_seen, held, Joinable};
 ghost use Rattle.scheme.specs.Rules.{push_seen, pull_seen};
 ghost use Rattle.std.proofs.Common.{rules};
 
+use column::cleaned::Cleaned;
 use column::kinds::Kind;
-use column::views::View;
 use scheme::ctx::CompressorContext;
 use scheme::estimate::{CompressionEstimate, EstimateScore, EstimateVerdict};
 use scheme::exclusion::{AncestorExclusion, DescendantExclusion};
-use scheme::scheme::{ArrayAndStats, Scheme, Shape, Stored};
+use scheme::scheme::{ArrayAndStats, RowRefused, Scheme, Shape, Stored};
 
 // Every answer is that of the scheme's meaning at the number.
+// A trait, and no `&[&dyn Scheme]`: a struct that keeps a `&dyn` gets no proof yet, and no function may hand one out.
+// Each function asks for `within` itself: a checked number would hold its bank, and every call would ask that the two banks are one.
 pub trait Bank {
     ghost meanings: { Self → List Meaning };
 
@@ -60,11 +64,8 @@ pub trait Bank {
         mem: &mut [u64],
     ) -> CompressionEstimate
         requires within { i < length (meanings self.now) }
-        requires sound { Sound col.array }
-        requires clean { CleanView col.array }
-        requires measured { Measured col }
-        requires room { spare (length col.array.cells.now) ≤ length mem.old }
-        ensures { result ≡ (at (meanings self.now) i).answer (seen col.entry.array) (stats_in col.entry) (history_of ctx.now) ctx.now.is_sample };
+        requires room { spare (length col.array.view.cells.now) ≤ length mem.old }
+        ensures { result ≡ (at (meanings self.now) i).answer (seen col.entry.array.view) (stats_in col.entry) (history_of ctx.now) ctx.now.is_sample };
 
     fn verdict_at(
         &self,
@@ -75,37 +76,30 @@ pub trait Bank {
         mem: &mut [u64],
     ) -> EstimateVerdict
         requires within { i < length (meanings self.now) }
-        requires sound { Sound col.array }
-        requires clean { CleanView col.array }
-        requires measured { Measured col }
-        requires room { spare (length col.array.cells.now) ≤ length mem.old }
-        ensures { result ≡ (at (meanings self.now) i).verdict (seen col.entry.array) (stats_in col.entry) (history_of ctx.now) ctx.now.is_sample mark };
+        requires room { spare (length col.array.view.cells.now) ≤ length mem.old }
+        ensures { result ≡ (at (meanings self.now) i).verdict (seen col.entry.array.view) (stats_in col.entry) (history_of ctx.now) ctx.now.is_sample mark };
 
     fn shape_at(
         &self,
         i: usize,
-        array: View<'_>,
+        array: Cleaned<'_>,
         cells0: &mut [u64],
         words0: &mut [u64],
         cells1: &mut [u64],
         words1: &mut [u64],
         mem: &mut [u64],
-    ) -> Result<Shape, u32>
+    ) -> Result<Shape, RowRefused>
         requires within { i < length (meanings self.now) }
-        requires sound { Sound array }
-        requires clean { CleanView array }
-        requires kind { (at (meanings self.now) i).takes (number_of array.kind) ≡ true }
-        requires room { Room (length array.cells.now) cells0.old words0.old cells1.old words1.old mem.old }
-        ensures { shape_seen (at (meanings self.now) i).child_count result cells0.new words0.new cells1.new words1.new ≡ outline ((at (meanings self.now) i).parts (seen array.entry)) };
+        requires kind { (at (meanings self.now) i).takes (number_of array.view.kind) ≡ true }
+        requires room { Room (length array.view.cells.now) cells0.old words0.old cells1.old words1.old mem.old }
+        ensures { shape_seen (at (meanings self.now) i).child_count result cells0.new words0.new cells1.new words1.new ≡ outline ((at (meanings self.now) i).parts (seen array.entry.view)) };
 
-    fn payload_at(&self, i: usize, array: View<'_>, mem: &mut [u64], out: &mut [u8])
+    fn payload_at(&self, i: usize, array: Cleaned<'_>, mem: &mut [u64], out: &mut [u8])
         requires within { i < length (meanings self.now) }
-        requires sound { Sound array }
-        requires clean { CleanView array }
-        requires kind { (at (meanings self.now) i).takes (number_of array.kind) ≡ true }
-        requires spared { spare (length array.cells.now) ≤ length mem.old }
-        requires room { length (payload_in ((at (meanings self.now) i).parts (seen array))) ≤ length out.old }
-        ensures { out.new ≡ written (payload_in ((at (meanings self.now) i).parts (seen array.entry))) out.old };
+        requires kind { (at (meanings self.now) i).takes (number_of array.view.kind) ≡ true }
+        requires spared { spare (length array.view.cells.now) ≤ length mem.old }
+        requires room { length (payload_in ((at (meanings self.now) i).parts (seen array.view))) ≤ length out.old }
+        ensures { out.new ≡ written (payload_in ((at (meanings self.now) i).parts (seen array.entry.view))) out.old };
 
     fn join_at(
         &self,
@@ -201,22 +195,22 @@ impl Bank for Empty {
     fn shape_at(
         &self,
         _i: usize,
-        _array: View<'_>,
+        _array: Cleaned<'_>,
         cells0: &mut [u64],
         words0: &mut [u64],
         cells1: &mut [u64],
         words1: &mut [u64],
         mem: &mut [u64],
-    ) -> Result<Shape, u32>
-        ensures answer { result ≡ Err 0 }
+    ) -> Result<Shape, RowRefused>
+        ensures answer { result ≡ Err (record { row = 0 }) }
         ensures child0 { (cells0.new ≡ cells0.old) × (words0.new ≡ words0.old) }
         ensures child1 { (cells1.new ≡ cells1.old) × (words1.new ≡ words1.old) }
         ensures lent { mem.new ≡ mem.old }
     {
-        Err(0)
+        Err(RowRefused { row: 0 })
     }
 
-    fn payload_at(&self, _i: usize, _array: View<'_>, mem: &mut [u64], out: &mut [u8])
+    fn payload_at(&self, _i: usize, _array: Cleaned<'_>, mem: &mut [u64], out: &mut [u8])
         ensures bytes { out.new ≡ out.old }
         ensures lent { mem.new ≡ mem.old }
     {}
@@ -241,6 +235,7 @@ pub struct Pair<S, B> {
     pub rest: B,
 }
 
+// Each function tells head from rest itself: one helper would take a closure for each, and both closures would hold the same `mem`.
 impl<S: Scheme, B: Bank> Bank for Pair<S, B> {
     ghost meanings = { λ p. S.Scheme.meaning p.head ∷ B.Bank.meanings p.rest };
 
@@ -332,13 +327,13 @@ impl<S: Scheme, B: Bank> Bank for Pair<S, B> {
     fn shape_at(
         &self,
         i: usize,
-        array: View<'_>,
+        array: Cleaned<'_>,
         cells0: &mut [u64],
         words0: &mut [u64],
         cells1: &mut [u64],
         words1: &mut [u64],
         mem: &mut [u64],
-    ) -> Result<Shape, u32> {
+    ) -> Result<Shape, RowRefused> {
         if i == 0 {
             self.head.shape(array, cells0, words0, cells1, words1, mem)
         } else {
@@ -347,7 +342,7 @@ impl<S: Scheme, B: Bank> Bank for Pair<S, B> {
         }
     }
 
-    fn payload_at(&self, i: usize, array: View<'_>, mem: &mut [u64], out: &mut [u8]) {
+    fn payload_at(&self, i: usize, array: Cleaned<'_>, mem: &mut [u64], out: &mut [u8]) {
         if i == 0 {
             self.head.payload(array, mem, out)
         } else {
@@ -369,18 +364,4 @@ impl<S: Scheme, B: Bank> Bank for Pair<S, B> {
             self.rest.join_at(i - 1, stored, mem, cells, words)
         }
     }
-}
-
-// The number of the first scheme with the id.
-pub fn find<B: Bank>(bank: &B, id: u8) -> Option<usize>
-    requires { length (B.Bank.meanings bank.now) < 9 }
-    ensures is { result ≡ find_from 0 (B.Bank.meanings bank.now) id }
-    ensures within { elim result [ None ↦ Unit {0} | Some i ↦ i < length (B.Bank.meanings bank.now) ] }
-{
-    for i in 0..bank.count() {
-        if bank.id_at(i) == id {
-            return Some(i);
-        }
-    }
-    None
 }

@@ -2,10 +2,9 @@
 #![tactic(auto)]
 
 ghost use Rattle.banks.specs.Banks.{Kept, house as house_bank, trial as trial_bank};
-ghost use Rattle.scheme.specs.Banks.{find_from};
 ghost use Rattle.std.specs.Prelude.{◌≡◌};
 
-use bank::{Empty, Pair, find};
+use bank::{Bank, Empty, Pair};
 use dict::integer::IntDictScheme;
 use frame::FrameScheme;
 use runs::RunsScheme;
@@ -17,7 +16,10 @@ pub type House = Pair<IntDictScheme, Pair<RunsScheme, Pair<FrameScheme, Empty>>>
 // Stern, and then the house bank.
 pub type Trial = Pair<SternScheme, House>;
 
-fn house() -> House {
+// What the binder is used with.
+pub fn house() -> House
+    ensures { ⟦<House as Bank>⟧.meanings result ≡ house_bank }
+{
     let frame = Pair {
         head: FrameScheme,
         rest: Empty {},
@@ -32,25 +34,14 @@ fn house() -> House {
     }
 }
 
-fn trial() -> Trial {
+// The same behind Stern, for trials.
+pub fn trial() -> Trial
+    ensures { ⟦<Trial as Bank>⟧.meanings result ≡ trial_bank }
+{
     Pair {
         head: SternScheme,
         rest: house(),
     }
-}
-
-// The number of the scheme with this id in the house bank.
-pub fn find_in_house(id: u8) -> Option<usize>
-    ensures { result ≡ find_from 0 house_bank id }
-{
-    find(&house(), id)
-}
-
-// The number of the scheme with this id in the trial bank.
-pub fn find_in_trial(id: u8) -> Option<usize>
-    ensures { result ≡ find_from 0 trial_bank id }
-{
-    find(&trial(), id)
 }
 
 // Both banks are instances of what is proved over every bank.

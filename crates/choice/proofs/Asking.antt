@@ -1,7 +1,7 @@
 -- The pass over the immediate answers, scheme by scheme.
-use Rattle.std.proofs.Common.{◌≡◌, ℕ, ◌+◌, ◌<◌, ◌≤◌, Bool, true, false, ◌&&◌, List, [], ◌∷◌, ◌++◌, length, drop, None, Option, sym, refl, ap, ◌∙◌, subst, arith}
+use Rattle.std.proofs.Common.{◌≡◌, ℕ, ◌+◌, ◌<◌, ◌≤◌, Bool, true, false, ◌&&◌, List, [], ◌∷◌, ◌++◌, length, drop, None, Option, sym, refl, ap, ◌∙◌, subst, zero-le, arith}
 use lib.Ieee.{Float}
-use Rattle.std.proofs.lemmas.List.{append-nil, append_assoc, at_drop_all, at_drop_more}
+use Rattle.std.proofs.lemmas.List.{append-nil, append_assoc, length-append, at_drop_all, at_drop_more}
 use Rattle.column.specs.Columns.{Column}
 use Rattle.stats.specs.Stats.{Stats}
 use Rattle.scheme.specs.declared.estimate.CompressionEstimate.{CompressionEstimate}
@@ -11,12 +11,12 @@ use Rattle.scheme.specs.declared.estimate.DeferredEstimate.{DeferredEstimate}
 use Rattle.scheme.specs.declared.estimate.EstimateScore.TheVariants.{FiniteCompression}
 use Rattle.scheme.specs.Meaning.{Meaning, History}
 use Rattle.scheme.specs.Banks.{at, nothing}
+use Rattle.scheme.specs.Bounded.{Bounded}
 use Rattle.scheme.specs.Exclusion.{competes, keep_if, eligible, eligible_of}
 use Rattle.levels.specs.Choice.{Best, Asked, ended, waiting, wait, ask_step, asked, bested}
 use Rattle.levels.specs.NodesOf.{Able}
 use Rattle.choice.specs.declared.best.Leader.{Leader}
 use Rattle.choice.specs.declared.table.Slot.{Slot}
-use Rattle.choice.specs.declared.table.Table.{Table}
 use Rattle.choice.specs.Picks.{best_of, slots_of, deferred_of, AbleLeader, AbleSlots}
 
 -- what waits already, before what will
@@ -99,27 +99,29 @@ turns-done c t h f ms k i ds b w ge inv =
 
 -- ---- the loop: what is left to ask gives the answer w, and every scheme held takes the kind
 
-pub record Kept (c : Column) (t : Stats) (h : History) (f : Bool) (ms : List Meaning) (k i : ℕ) (T : Table) (b : Option Leader) (w : Asked) : Type 0 where
+pub record Kept (c : Column) (t : Stats) (h : History) (f : Bool) (ms : List Meaning) (k i : ℕ) (T : Bounded Slot) (b : Option Leader) (w : Asked) : Type 0 where
   pub left : rest_of c t h f ms k i (deferred_of ms (slots_of T)) (best_of ms b) ≡ w
   pub leader : AbleLeader ms k b
   pub slots : AbleSlots ms k (slots_of T)
-  pub few : T.len ≤ i
+  pub few : length T.items ≤ i
+  pub within : length T.items ≤ length ms
 
-pub kept-start : (c : Column) (t : Stats) (h : History) (f : Bool) (ms : List Meaning) (k : ℕ) (T : Table) → slots_of T ≡ [] → T.len ≡ 0
+pub kept-start : (c : Column) (t : Stats) (h : History) (f : Bool) (ms : List Meaning) (k : ℕ) (T : Bounded Slot) → slots_of T ≡ []
     → Kept c t h f ms k 0 T None (asked c t h f (eligible ms k h) None)
-kept-start c t h f ms k T es el =
+kept-start c t h f ms k T es =
     let x = asked c t h f (eligible ms k h) None in
     let S : List Slot → Type 0 = λ y. AbleSlots ms k y in
-    record { left = ap (λ y. prepend (deferred_of ms y) x) es ∙ prepend-none x; leader = tt; slots = subst S (sym es) tt; few = omega arith }
+    let none : length T.items ≤ 0 = subst (λ (y : List Slot). length y ≤ 0) (sym es) zero-le in
+    record { left = ap (λ y. prepend (deferred_of ms y) x) es ∙ prepend-none x; leader = tt; slots = subst S (sym es) tt; few = none; within = omega arith }
 
-module _ (c : Column) (t : Stats) (h : History) (f : Bool) (ms : List Meaning) (k i : ℕ) (T T2 : Table) (b b2 : Option Leader) (w : Asked)
+module _ (c : Column) (t : Stats) (h : History) (f : Bool) (ms : List Meaning) (k i : ℕ) (T T2 : Bounded Slot) (b b2 : Option Leader) (w : Asked)
     (lt : i < length ms) (inv : Kept c t h f ms k i T b w) where
   same : T2 ≡ T → b2 ≡ b → rest_of c t h f ms k (i + 1) (deferred_of ms (slots_of T)) (best_of ms b) ≡ w → Kept c t h f ms k (i + 1) T2 b2 w
   same e_t eb l =
       let n = inv.few in
-      let P : Table → Type 0 = λ y. Kept c t h f ms k (i + 1) y b w in
+      let P : Bounded Slot → Type 0 = λ y. Kept c t h f ms k (i + 1) y b w in
       let Q : Option Leader → Type 0 = λ y. Kept c t h f ms k (i + 1) T2 y w in
-      subst Q (sym eb) (subst P (sym e_t) (record { left = l; leader = inv.leader; slots = inv.slots; few = omega arith }))
+      subst Q (sym eb) (subst P (sym e_t) (record { left = l; leader = inv.leader; slots = inv.slots; few = omega arith; within = inv.within }))
 
   pub kept_out : false ≡ competes ms k h (at ms i) → T2 ≡ T → b2 ≡ b → Kept c t h f ms k (i + 1) T2 b2 w
   kept_out e e_t eb = same e_t eb (turn-out c t h f ms k i (deferred_of ms (slots_of T)) (best_of ms b) w lt inv.left e)
@@ -131,26 +133,29 @@ module _ (c : Column) (t : Stats) (h : History) (f : Bool) (ms : List Meaning) (
       → best_of ms b3 ≡ bested (at ms i) (FiniteCompression x) (best_of ms b) → AbleLeader ms k b3 → Kept c t h f ms k (i + 1) T2 b2 w
   kept-ratio x b3 e ea e_t e3 eb a =
       let n = inv.few in
-      let P : Table → Type 0 = λ y. Kept c t h f ms k (i + 1) y b3 w in
+      let P : Bounded Slot → Type 0 = λ y. Kept c t h f ms k (i + 1) y b3 w in
       let Q : Option Leader → Type 0 = λ y. Kept c t h f ms k (i + 1) T2 y w in
       subst Q (sym e3) (subst P (sym e_t) (record {
         left = turn-ratio c t h f ms k i (deferred_of ms (slots_of T)) (best_of ms b) w lt inv.left x (best_of ms b3) e ea eb;
         leader = a;
         slots = inv.slots;
         few = omega arith;
+        within = inv.within;
       }))
 
-  pub kept-deferred : (d : DeferredEstimate) (T3 : Table) → true ≡ competes ms k h (at ms i) → Deferred d ≡ (at ms i).answer c t h f → T2 ≡ T3
-      → slots_of T3 ≡ slots_of T ++ (record { scheme = i; estimate = d } ∷ []) → T3.len ≡ T.len + 1 → b2 ≡ b → Kept c t h f ms k (i + 1) T2 b2 w
-  kept-deferred d T3 e ea e3 es el eb =
+  pub kept-deferred : (d : DeferredEstimate) (T3 : Bounded Slot) → true ≡ competes ms k h (at ms i) → Deferred d ≡ (at ms i).answer c t h f → T2 ≡ T3
+      → slots_of T3 ≡ slots_of T ++ (record { scheme = i; estimate = d } ∷ []) → b2 ≡ b → Kept c t h f ms k (i + 1) T2 b2 w
+  kept-deferred d T3 e ea e3 es eb =
       let n = inv.few in
       let s : Slot = record { scheme = i; estimate = d } in
+      let more = ap length es ∙ length-append T.items (s ∷ []) in
       let S : List Slot → Type 0 = λ y. AbleSlots ms k y in
-      let P : Table → Type 0 = λ y. Kept c t h f ms k (i + 1) y b w in
+      let P : Bounded Slot → Type 0 = λ y. Kept c t h f ms k (i + 1) y b w in
       let Q : Option Leader → Type 0 = λ y. Kept c t h f ms k (i + 1) T2 y w in
       subst Q (sym eb) (subst P (sym e3) (record {
         left = turn-deferred c t h f ms k i (deferred_of ms (slots_of T)) (best_of ms b) w lt inv.left d (deferred_of ms (slots_of T3)) e ea (ap (deferred_of ms) es ∙ deferred-more ms (slots_of T) s);
         leader = inv.leader;
         slots = subst S (sym es) (slots-more ms k (slots_of T) s inv.slots (able-here ms k h i lt e));
-        few = omega arith;
+        few = omega (arith, more);
+        within = omega (arith, more);
       }))

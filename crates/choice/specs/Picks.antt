@@ -1,14 +1,14 @@
 -- What the choice holds by the schemes' numbers in the bank, and that each number is of a scheme that takes the kind.
-use Rattle.std.specs.Prelude.{ℕ, ◌≤◌, List, [], ◌∷◌, map, take, Some, None, Ok, Err, Option, Result}
+use Rattle.std.specs.Prelude.{ℕ, ◌≤◌, List, [], ◌∷◌, map, length, Some, None, Ok, Err, Option, Result}
 use Rattle.column.specs.declared.refusals.Refusal.{Refusal}
 use Rattle.scheme.specs.declared.estimate.DeferredEstimate.{DeferredEstimate}
 use Rattle.scheme.specs.Meaning.{Meaning}
 use Rattle.scheme.specs.Banks.{at}
+use Rattle.scheme.specs.Bounded.{Bounded}
 use Rattle.levels.specs.Choice.{Best, Asked, ended, waiting, Chosen}
 use Rattle.levels.specs.NodesOf.{Able}
 use Rattle.choice.specs.declared.best.Leader.{Leader}
 use Rattle.choice.specs.declared.table.Slot.{Slot}
-use Rattle.choice.specs.declared.table.Table.{Table}
 use Rattle.choice.specs.declared.FirstPass.{FirstPass}
 use Rattle.choice.specs.declared.FirstPass.TheVariants.{Ended, Waiting}
 
@@ -19,8 +19,8 @@ best_of ms None = None
 best_of ms (Some l) = Some (at ms l.scheme, l.score)
 
 -- the places that are filled
-abbrev pub slots_of : Table → List Slot
-slots_of t = take t.len t.places
+abbrev pub slots_of : Bounded Slot → List Slot
+slots_of t = t.items
 
 abbrev pub deferred_of : List Meaning → List Slot → List (Meaning × DeferredEstimate)
 deferred_of ms ss = map (λ s. (at ms s.scheme, s.estimate)) ss
@@ -46,7 +46,7 @@ AbleSlots ms k (s ∷ ss) = Able ms k s.scheme × AbleSlots ms k ss
 
 abbrev pub AbleAsked : List Meaning → ℕ → FirstPass → Type 0
 AbleAsked ms k (Ended i) = Able ms k i
-AbleAsked ms k (Waiting b t) = AbleLeader ms k b × AbleSlots ms k (slots_of t) × (t.len ≤ 8)
+AbleAsked ms k (Waiting b t) = AbleLeader ms k b × AbleSlots ms k (slots_of t) × (length (slots_of t) ≤ 8)
 
 abbrev pub AblePick : List Meaning → ℕ → Result (Option ℕ) Refusal → Type 0
 AblePick ms k (Err e) = Unit {0}

@@ -19,20 +19,14 @@ pub struct Leader {
 pub fn mark(best: Option<Leader>) -> Option<EstimateScore>
     ensures { (ms : List Meaning) → result ≡ mark_of (best_of ms best) }
 {
-    match best {
-        None => None,
-        Some(leader) => Some(leader.score),
-    }
+    best.map(|leader| leader.score)
 }
 
 // Whether the score is valid and beats the best so far.
 pub fn is_better_score(score: EstimateScore, best: Option<Leader>) -> bool
     ensures { (ms : List Meaning) → result ≡ is_better score (mark_of (best_of ms best)) }
 {
-    match best {
-        None => score.is_valid(),
-        Some(leader) => score.is_valid() && score.beats(leader.score),
-    }
+    score.is_valid() && best.is_none_or(|leader| score.beats(leader.score))
 }
 
 // The best so far, once the scheme has its score.
@@ -52,8 +46,5 @@ pub fn winner_of(best: Option<Leader>) -> Option<usize>
     ensures is { (ms : List Meaning) → named ms (Ok result) ≡ Ok (winner_of (best_of ms best)) }
     ensures able { (ms : List Meaning) (k : ℕ) → AbleLeader ms k best → AblePick ms k (Ok result) }
 {
-    match best {
-        None => None,
-        Some(leader) => Some(leader.scheme),
-    }
+    best.map(|leader| leader.scheme)
 }

@@ -2,24 +2,25 @@
 #![tactic(auto)]
 
 pub mod best;
-pub mod slots;
 pub mod table;
 
-ghost use Rattle.std.specs.Prelude.{◌≡◌, ◌<◌, ◌≤◌, length, None};
+ghost use Rattle.std.specs.Prelude.{◌≡◌, ◌≤◌, length, None};
 ghost use Rattle.choice.specs.Picks.{AbleAsked, asked_of};
-ghost use Rattle.column.specs.Columns.{seen, Sound, CleanView};
+ghost use Rattle.column.specs.Columns.{seen};
 ghost use Rattle.column.specs.Kinds.{number_of};
 ghost use Rattle.levels.specs.Choice.{asked};
 ghost use Rattle.scheme.specs.Exclusion.{eligible};
-ghost use Rattle.scheme.specs.Memory.{spare, history_of, stats_in, Measured};
+ghost use Rattle.scheme.specs.Memory.{spare, history_of, stats_in};
 
 use bank::Bank;
+use bank::small::SmallBank;
 use best::{Leader, better_of};
+use scheme::bounded::Bounded;
 use scheme::ctx::CompressorContext;
 use scheme::estimate::{CompressionEstimate, EstimateScore, EstimateVerdict};
 use scheme::scheme::ArrayAndStats;
-use select::is_eligible;
-use table::Table;
+use select::Candidate;
+use table::{FREE, Slot, Table};
 
 // What the immediate answers came to: a scheme that is always used, or the best so far and those that wait.
 #[derive(Clone, Copy)]
@@ -29,25 +30,26 @@ pub enum FirstPass {
 }
 
 // Every eligible scheme in bank order. Deferred work is left for later, so that none is done if AlwaysUse ends the choice.
-pub fn ask_all<B: Bank>(
-    bank: &B,
+pub fn ask_all<'a, B: Bank>(
+    bank: &'a SmallBank<'a, B>,
     col: ArrayAndStats<'_>,
     ctx: &CompressorContext,
     mem: &mut [u64],
 ) -> FirstPass
-    requires few { length (B.Bank.meanings bank.now) < 9 }
-    requires sound { Sound col.array }
-    requires clean { CleanView col.array }
-    requires measured { Measured col }
-    requires room { spare (length col.array.cells.now) ≤ length mem.old }
-    ensures is { asked_of (B.Bank.meanings bank.now) result ≡ asked (seen col.entry.array) (stats_in col.entry) (history_of ctx.now) ctx.now.is_sample (eligible (B.Bank.meanings bank.now) (number_of col.entry.array.kind) (history_of ctx.now)) None }
-    ensures able { AbleAsked (B.Bank.meanings bank.now) (number_of col.entry.array.kind) result }
+    requires room { spare (length col.array.view.cells.now) ≤ length mem.old }
+    ensures is { asked_of (B.Bank.meanings bank.now.schemes.now) result ≡ asked (seen col.entry.array.view) (stats_in col.entry) (history_of ctx.now) ctx.now.is_sample (eligible (B.Bank.meanings bank.now.schemes.now) (number_of col.entry.array.view.kind) (history_of ctx.now)) None }
+    ensures able { AbleAsked (B.Bank.meanings bank.now.schemes.now) (number_of col.entry.array.view.kind) result }
 {
     let mut best = None;
-    let mut table = Table::new();
-    for i in 0..bank.count() {
-        if is_eligible(bank, i, col.array.kind, ctx.cascade_history()) {
-            match bank.expected_compression_ratio_at(i, col, ctx, mem) {
+    let mut table = Bounded::new(FREE);
+    for i in 0..bank.schemes.count() {
+        let candidate = Candidate {
+            bank,
+            number: i,
+            history: ctx.cascade_history(),
+        };
+        if candidate.is_eligible(col.array.view.kind) {
+            match bank.schemes.expected_compression_ratio_at(i, col, ctx, mem) {
                 CompressionEstimate::Verdict(EstimateVerdict::Skip) => {}
                 CompressionEstimate::Verdict(EstimateVerdict::AlwaysUse) => {
                     return FirstPass::Ended(i);
@@ -55,7 +57,12 @@ pub fn ask_all<B: Bank>(
                 CompressionEstimate::Verdict(EstimateVerdict::Ratio(ratio)) => {
                     best = better_of(best, i, EstimateScore::FiniteCompression(ratio));
                 }
-                CompressionEstimate::Deferred(estimate) => table.put(i, estimate),
+                CompressionEstimate::Deferred(estimate) => {
+                    table.push(Slot {
+                        scheme: i,
+                        estimate,
+                    });
+                }
             }
         }
     }

@@ -1,6 +1,5 @@
 // The schemes whose answer is deferred: eight places.
-ghost use Rattle.std.specs.Prelude.{◌≡◌, ◌≤◌, length};
-
+use scheme::bounded::Bounded;
 use scheme::estimate::DeferredEstimate;
 
 // A scheme by its number in the bank, and what it waits for.
@@ -11,10 +10,10 @@ pub struct Slot {
 }
 
 // In bank order.
-#[derive(Clone, Copy)]
-pub struct Table {
-    pub places: [Slot; 8],
-    pub len: usize,
-    ghost full: { length places ≡ 8 },
-    ghost few: { len ≤ 8 },
-}
+pub type Table = Bounded<Slot, 8>;
+
+// What lies in a free place.
+pub(crate) const FREE: Slot = Slot {
+    scheme: 0,
+    estimate: DeferredEstimate::Sample,
+};

@@ -10,22 +10,21 @@ use Rattle.lines.specs.Lines.{comma, rows_in, line_read, name_by, field_of}
 use Rattle.stats.specs.Stats.{Stats, stats, distinct_count, most_frequent}
 use Rattle.colstats.specs.Printed.{fields, value_fields_by, value_fields, count_fields, row_text, printed_by, printed}
 
-pub value_row : (k : ℕ) (s : Stats) (low high top : List ℕ) (least greatest : ℕ) (d : Option ℕ) (n : ℕ) (m : Option (ℕ × ℕ)) (p : ℕ × ℕ)
+pub value_row : (k : ℕ) (s : Stats) (least greatest : ℕ) (d : Option ℕ) (n : ℕ) (m : Option (ℕ × ℕ)) (p : ℕ × ℕ)
     → (s.count ≡ 0 → ⊥)
-    → low ≡ field_of k (Some least) → least ≡ s.least
-    → high ≡ field_of k (Some greatest) → greatest ≡ s.greatest
+    → least ≡ s.least
+    → greatest ≡ s.greatest
     → n ≡ unwrap_or d 0 → d ≡ distinct_count s
     → p ≡ unwrap_or m (0, 0) → m ≡ most_frequent s
-    → top ≡ field_of k (Some p.0)
-    → low ++ (comma ∷ (high ++ (comma ∷ (decimal n ++ (comma ∷ (top ++ (comma ∷ decimal p.1))))))) ≡ fields (value_fields k s)
-value_row k s low high top least greatest d n m p some e1 f1 e2 f2 e3 f3 e4 f4 e5 =
-    let q : p ≡ unwrap_or (most_frequent s) (0, 0) = e4 ∙ ap (λ o. unwrap_or o (0, 0)) f4 in
+    → field_of k (Some least) ++ (comma ∷ (field_of k (Some greatest) ++ (comma ∷ (decimal n ++ (comma ∷ (field_of k (Some p.0) ++ (comma ∷ decimal p.1)))))))
+    ≡ fields (value_fields k s)
+value_row k s least greatest d n m p some low high e f g h =
     (λ i.
-    (e1 ∙ ap (λ w. field_of k (Some w)) f1) i
-    ++ (comma ∷ ((e2 ∙ ap (λ w. field_of k (Some w)) f2) i
-    ++ (comma ∷ (decimal ((e3 ∙ ap (λ o. unwrap_or o 0) f3) i)
-    ++ (comma ∷ ((e5 ∙ ap (λ r. field_of k (Some r.0)) q) i
-    ++ (comma ∷ decimal (q i).1))))))))
+    field_of k (Some (low i))
+    ++ (comma ∷ (field_of k (Some (high i))
+    ++ (comma ∷ (decimal ((e ∙ ap (λ o. unwrap_or o 0) f) i)
+    ++ (comma ∷ (field_of k (Some ((g ∙ ap (λ o. unwrap_or o (0, 0)) h) i).0)
+    ++ (comma ∷ decimal ((g ∙ ap (λ o. unwrap_or o (0, 0)) h) i).1))))))))
     ∙ ap (λ b. fields (value_fields_by b k s)) (sym (ne_eqb s.count 0 some))
 
 -- ---- the row

@@ -9,11 +9,9 @@ use std::io::{BufRead, BufReader};
 fn run(rt: &HostRuntime) -> anyhow::Result<()> {
     let heap = rt.alloc();
     println!(rt; "line,kind,rows,nulls,values,average,min,max,distinct,commonest,times")?;
-    let mut n: u64 = 0;
-    for line in BufReader::new(heap, rt.stdin())?.lines(heap) {
+    for (i, line) in BufReader::new(heap, rt.stdin())?.lines(heap).enumerate() {
         let text = line?;
-        n = n.saturating_add(1);
-        let row = answer(heap, n, text.as_bytes())?;
+        let row = answer(heap, i as u64 + 1, text.as_bytes())?;
         println!(rt; "{row}")?;
     }
     Ok(())

@@ -3,28 +3,16 @@ ghost use Rattle.column.specs.Columns.{cleaned};
 ghost use Rattle.column.specs.Kinds.{name_of, number_of};
 ghost use Rattle.colstats.specs.Printed.{count_fields, value_fields, fields, row_text, printed};
 ghost use Rattle.lines.specs.Held.{held};
-ghost use Rattle.lines.specs.Lines.{field_of};
 ghost use Rattle.stats.specs.Seen.{Holds, stats_seen};
-ghost use Rattle.std.specs.Prelude.{◌≡◌, ℕ, List, [], IfOk, Some, string_bytes};
+ghost use Rattle.std.specs.Prelude.{◌≡◌, ℕ, List, [], IfOk, string_bytes};
 
 use column::kinds::Kind;
 use lines::columns::{LineColumn, LineError};
+use lines::numbers::Number;
 use lines::reads::read_line;
 use stats::integer::IntegerStats;
 use stats::options::GenerateStatsOptions;
 use std::alloc::{AllocError, Global};
-
-// The number of a cell, in decimal.
-fn number(heap: Global, kind: Kind, cell: u64) -> Result<String, AllocError>
-    ensures { IfOk result (λ s. string_bytes s ≡ field_of (number_of kind) (Some cell)) }
-{
-    if kind.is_signed() && cell >= 1 << 63 {
-        let size = cell.wrapping_neg();
-        format!(in heap; "-{size}")
-    } else {
-        format!(in heap; "{cell}")
-    }
-}
 
 // The line's number, the kind, and counts.
 fn count_fields(
@@ -50,11 +38,17 @@ fn value_fields(heap: Global, kind: Kind, stats: &IntegerStats) -> Result<String
     if stats.value_count() == 0 {
         return String::from_str(heap, ",,,,");
     }
-    let min = number(heap, kind, stats.min())?;
-    let max = number(heap, kind, stats.max())?;
     let distinct = stats.distinct_count().unwrap_or(0);
     let (value, times) = stats.most_frequent_value_and_count().unwrap_or((0, 0));
-    let commonest = number(heap, kind, value)?;
+    let min = Number {
+        kind,
+        cell: stats.min(),
+    };
+    let max = Number {
+        kind,
+        cell: stats.max(),
+    };
+    let commonest = Number { kind, cell: value };
     format!(in heap; "{min},{max},{distinct},{commonest},{times}")
 }
 

@@ -1,17 +1,12 @@
 -- Whether a block has a blank.
-use Rattle.std.proofs.Common.{◌≡◌, ℕ, zero, suc, ◌+◌, ◌-◌, ◌*◌, ◌/◌, ◌%◌, ◌^◌, ◌<◌, ◌≤◌, min, Bool, true, false, not, ◌||◌, eqb, List, [], ◌∷◌, length, get_or, take, drop, sym, refl, ap, ◌∙◌, inl, inr, mod-eq_of_lt, add-mul, pow-suc, add-one, arith, length-drop, pow_pos}
+use Rattle.std.proofs.Common.{◌≡◌, ℕ, zero, suc, ◌+◌, ◌-◌, ◌*◌, ◌/◌, ◌%◌, ◌^◌, ◌≤◌, Bool, true, false, not, ◌||◌, eqb, List, [], ◌∷◌, length, sym, refl, ap, ◌∙◌, inl, inr, add-mul, pow-suc, add-one, arith, pow_pos}
 use Rattle.std.proofs.lemmas.Bool.{cases_eq, eq-eqb, ne_eqb}
-use Rattle.std.proofs.lemmas.List.{length-take-le}
 use Rattle.std.proofs.lemmas.Nat.{mod-pow-add, pow-add, mod-mul-add}
-use Rattle.std.proofs.ByRecursion.{All-get_or}
-use Rattle.column.specs.Columns.{row_of, cells, has_blank}
+use Rattle.column.specs.Columns.{row_of, has_blank}
 use Rattle.column.specs.Views.{block_rows}
 use Rattle.column.proofs.RowLaws.{blank-append}
-use Rattle.column.proofs.WordLaws.{Words, word_rows, rows_more, rows_none}
-
-or-false : (b : Bool) → (b || false) ≡ b
-or-false true = refl
-or-false false = refl
+use Rattle.column.proofs.WordLaws.{word_rows, rows_none}
+use Rattle.column.proofs.NextLaws.{Next, next-rows}
 
 -- all n low bits are set
 abbrev pub full : ℕ → ℕ → Bool
@@ -62,55 +57,18 @@ ones-full n h =
 pub ones-block : (w : ℕ) (xs : List ℕ) → w ≡ 2 ^ 64 - 1 → length xs ≤ 64 → has_blank (block_rows w xs) ≡ false
 ones-block w xs e h = ap (λ z. has_blank (block_rows z xs)) e ∙ block-blank (2 ^ 64 - 1) xs ∙ ap not (ones-full (length xs) h)
 
--- 64 rows by another word have a blank
-pub blank-block : (w : ℕ) (xs : List ℕ) → w < 2 ^ 64 → (w ≡ 2 ^ 64 - 1 → ⊥) → length xs ≡ 64 → has_blank (block_rows w xs) ≡ true
-blank-block w xs h e l = block-blank w xs ∙ ap (λ n. not (full n w)) l ∙ ap not (ne_eqb (w % 2 ^ 64) (2 ^ 64 - 1) (λ z. e (sym (mod-eq_of_lt h) ∙ z)))
-
 -- ---- block by block
 
-blanks-split : (words cells : List ℕ) (b e : ℕ) (goal : Bool) → Words words → b < length words → 64 * b ≤ length cells → e ≡ min (64 * b + 64) (length cells)
-    → has_blank (word_rows (drop b words) (drop (64 * b) cells)) ≡ goal
-    → (has_blank (block_rows (get_or words b 0) (take (e - 64 * b) (drop (64 * b) cells))) || has_blank (word_rows (drop (b + 1) words) (drop (64 * (b + 1)) cells))) ≡ goal
-blanks-split words cells b e goal a h l m now =
-    sym (blank-append (block_rows (get_or words b 0) (take (e - 64 * b) (drop (64 * b) cells))) (word_rows (drop (b + 1) words) (drop (64 * (b + 1)) cells)))
-    ∙ ap has_blank (sym (rows_more words cells b (64 * b) e a h refl l m)) ∙ now
+module _ {ws cs : List ℕ} {word : ℕ} {block ws2 cs2 : List ℕ} {goal : Bool} (n : Next ws cs word block ws2 cs2) (now : has_blank (word_rows ws cs) ≡ goal) where
+  blanks-split : (has_blank (block_rows word block) || has_blank (word_rows ws2 cs2)) ≡ goal
+  blanks-split = sym (blank-append (block_rows word block) (word_rows ws2 cs2)) ∙ ap has_blank (sym (next-rows n)) ∙ now
 
-whole-block : (cells : List ℕ) (b : ℕ) → 64 * (b + 1) ≤ length cells → length (take (64 * b + 64 - 64 * b) (drop (64 * b) cells)) ≡ 64
-whole-block cells b h = length-take-le (64 * b + 64 - 64 * b) (drop (64 * b) cells) (omega (arith, length-drop (64 * b) cells)) ∙ omega arith
+  pub blanks-more : false ≡ has_blank (block_rows word block) → has_blank (word_rows ws2 cs2) ≡ goal
+  blanks-more none = ap (λ z. z || has_blank (word_rows ws2 cs2)) none ∙ blanks-split
 
-pub blanks-more : (words cells : List ℕ) (b : ℕ) (goal : Bool) → Words words → b < length words → 64 * (b + 1) ≤ length cells → get_or words b 0 ≡ 2 ^ 64 - 1
-    → has_blank (word_rows (drop b words) (drop (64 * b) cells)) ≡ goal
-    → has_blank (word_rows (drop (b + 1) words) (drop (64 * (b + 1)) cells)) ≡ goal
-blanks-more words cells b goal a h l f now =
-    let xs = take (64 * b + 64 - 64 * b) (drop (64 * b) cells) in
-    let no-blank : has_blank (block_rows (get_or words b 0) xs) ≡ false = ones-block (get_or words b 0) xs f (omega (arith, whole-block cells b l)) in
-    ap (λ z. z || has_blank (word_rows (drop (b + 1) words) (drop (64 * (b + 1)) cells))) (sym no-blank)
-    ∙ blanks-split words cells b (64 * b + 64) goal a h (omega arith) (omega arith) now
-
-pub blanks-stop : (words cells : List ℕ) (b : ℕ) (goal : Bool) → Words words → b < length words → 64 * (b + 1) ≤ length cells → (get_or words b 0 ≡ 2 ^ 64 - 1 → ⊥)
-    → has_blank (word_rows (drop b words) (drop (64 * b) cells)) ≡ goal
-    → true ≡ goal
-blanks-stop words cells b goal a h l f now =
-    let xs = take (64 * b + 64 - 64 * b) (drop (64 * b) cells) in
-    let blank : has_blank (block_rows (get_or words b 0) xs) ≡ true = blank-block (get_or words b 0) xs (All-get_or (λ w. w < 2 ^ 64) words b 0 h a) f (whole-block cells b l) in
-    ap (λ z. z || has_blank (word_rows (drop (b + 1) words) (drop (64 * (b + 1)) cells))) (sym blank)
-    ∙ blanks-split words cells b (64 * b + 64) goal a h (omega arith) (omega arith) now
+  pub blanks-stop : true ≡ has_blank (block_rows word block) → true ≡ goal
+  blanks-stop some = ap (λ z. z || has_blank (word_rows ws2 cs2)) some ∙ blanks-split
 
 -- no rows are left
-pub blanks-end : (words cells : List ℕ) (b : ℕ) (goal : Bool) → length cells ≤ 64 * b → has_blank (word_rows (drop b words) (drop (64 * b) cells)) ≡ goal → false ≡ goal
-blanks-end words cells b goal h now = ap has_blank (sym (rows_none (drop b words) cells (64 * b) h)) ∙ now
-
--- fewer than 64 rows are left
-pub blanks-last : (words cells : List ℕ) (b n : ℕ) (goal : Bool) → Words words → b < length words → length cells ≡ 64 * b + n → n < 64
-    → has_blank (word_rows (drop b words) (drop (64 * b) cells)) ≡ goal
-    → not (full n (get_or words b 0)) ≡ goal
-blanks-last words cells b n goal a h l s now =
-    let e = length cells in
-    let w = get_or words b 0 in
-    let xs = take (e - 64 * b) (drop (64 * b) cells) in
-    let after = word_rows (drop (b + 1) words) (drop (64 * (b + 1)) cells) in
-    let len : length xs ≡ n = length-take-le (e - 64 * b) (drop (64 * b) cells) (omega (arith, length-drop (64 * b) cells)) ∙ omega arith in
-    let none : after ≡ [] = rows_none (drop (b + 1) words) cells (64 * (b + 1)) (omega arith) in
-    let blank : has_blank (block_rows w xs) ≡ not (full n w) = block-blank w xs ∙ ap (λ z. not (full z w)) len in
-    let split = blanks-split words cells b e goal a h (omega arith) (omega arith) now in
-    sym (or-false (not (full n w))) ∙ (λ i. sym blank i || has_blank (sym none i)) ∙ split
+pub blanks-end : (ws cs : List ℕ) (goal : Bool) → length cs ≡ 0 → has_blank (word_rows ws cs) ≡ goal → false ≡ goal
+blanks-end ws cs goal h now = ap has_blank (sym (rows_none ws cs h)) ∙ now

@@ -1,15 +1,18 @@
 -- Which refusal turns an offer away.
-use Rattle.std.proofs.Common.{◌≡◌, ℕ, zero, suc, ◌/◌, ◌%◌, ◌^◌, ◌<◌, ◌≤◌, Bool, true, false, not, ◌||◌, eqb, ltb, List, length, get_or, Some, None, Option, sym, refl, ap, ◌∙◌, arith}
+use Rattle.std.proofs.Common.{◌≡◌, ℕ, zero, suc, ◌/◌, ◌%◌, ◌^◌, ◌<◌, ◌≤◌, Bool, true, false, not, ◌||◌, eqb, ltb, List, length, get_or, Some, None, Option, Ok, Err, Result, sym, refl, ap, ◌∙◌, subst, arith}
 use native.Mathlib.Nat.{zero-div}
 use Rattle.std.proofs.lemmas.Bool.{lt-ltb, le-leb, le-ltb, ltb-false, eq-eqb, ne_eqb, eqb-true, or_parts, not-false}
 use Rattle.std.proofs.lemmas.List.{get_or_past}
+use Rattle.std.specs.Result.{result_ok}
 use Rattle.packing.specs.Packing.{joined}
 use Rattle.column.specs.declared.kinds.Kind.{Kind}
 use Rattle.column.specs.declared.kinds.Kind.TheVariants.{U8, U16, U32, U64, I8, I16, I32, I64}
 use Rattle.column.specs.declared.refusals.Refusal.{Refusal}
 use Rattle.column.specs.declared.refusals.Refusal.TheVariants.{UnknownKind, TooManyRows, BadPresence}
-use Rattle.column.specs.Kinds.{number_of, kind_of}
-use Rattle.column.specs.Columns.{Offer, Clean, cleaned, offered, words_for, words_wrong, or_else, refuse_stray, stray_from, offer_refused}
+use Rattle.column.specs.declared.views.View.{View}
+use Rattle.column.specs.Kinds.{number_of, kind_of, known, known_kind}
+use Rattle.column.specs.Columns.{Offer, Clean, cleaned, offered, words_for, words_wrong, or_else, refuse_stray, stray_from, offer_refused, offer_seen}
+use Rattle.column.specs.Views.{unless, Shown}
 use Rattle.column.proofs.RowLaws.{length-offered}
 use Rattle.column.proofs.WordLaws.{Words, words-spare}
 
@@ -55,6 +58,28 @@ kind-few I16 = omega arith
 kind-few I32 = omega arith
 kind-few I64 = omega arith
 
+apart-known : {X : Type 0} {e : Refusal} {q : Kind} → ◌≡◌ {A = Result Kind Refusal} (Err e) (Ok q) → X
+apart-known e = absurd (let z : ◌≡◌ {A = ℕ} 0 1 = cc in omega arith)
+
+-- the kind that a number names
+pub known-is : (n : ℕ) (q : Kind) → known_kind n ≡ Ok q → n ≡ number_of q
+known-is n q e = go (kind_of n) refl e
+  where
+    go : (k : Option Kind) → kind_of n ≡ k → known k ≡ Ok q → n ≡ number_of q
+    go (Some p) f g = kind-some n q (f ∙ ap {B = Option Kind} Some (same_ok g))
+      where
+        same_ok : {p r : Kind} → ◌≡◌ {A = Result Kind Refusal} (Ok p) (Ok r) → p ≡ r
+        same_ok h = cc
+    go None f g = apart-known g
+
+-- the number's kind is what the answer says where it is granted
+pub known-ok : (k : Option Kind) → result_ok (known k) ≡ k
+known-ok (Some q) = refl
+known-ok None = refl
+
+pub known-few : (n : ℕ) (q : Kind) → known_kind n ≡ Ok q → n ≤ 7
+known-few n q e = let f = kind-few q in let g = known-is n q e in omega arith
+
 -- ---- the first refusal
 
 pub refused-kind : (o : Offer) → 7 < o.kind → offer_refused o ≡ Some UnknownKind
@@ -77,13 +102,20 @@ words_right n ws e =
     let p = or_parts (not (eqb (length ws) (words_for n))) (not (ltb (joined (2 ^ 64) ws) (2 ^ n))) e in
     eqb-true (length ws) (words_for n) (not-false (eqb (length ws) (words_for n)) p.0)
 
-pub shape-right : (n : ℕ) (ws : List ℕ) → shape n ws None ≡ None → Right n ws
-shape-right n ws e = go (ltb 131072 n) (words_wrong n ws) refl refl e
+granted : (o : Option Refusal) → unless o ≡ Ok tt → o ≡ None
+granted None e = refl
+granted (Some r) e = absurd (let z : ◌≡◌ {A = ℕ} 0 1 = cc in omega arith)
+
+shape-none : (n : ℕ) (ws : List ℕ) → shape n ws None ≡ None → Right n ws
+shape-none n ws e = go (ltb 131072 n) (words_wrong n ws) refl refl e
   where
     go : (p q : Bool) → ltb 131072 n ≡ p → words_wrong n ws ≡ q → or_else p TooManyRows (or_else q BadPresence None) ≡ None → Right n ws
     go true q a b f = apart-refusal f
     go false true a b f = apart-refusal f
     go false false a b f = record { few = ltb-false 131072 n a; words = words_right n ws b; whole = b }
+
+pub shape-right : (n : ℕ) (ws : List ℕ) → unless (shape n ws None) ≡ Ok tt → Right n ws
+shape-right n ws e = shape-none n ws (granted (shape n ws None) e)
 
 shape-some : (n : ℕ) (ws : List ℕ) (r : Refusal) (later : Option Refusal) → shape n ws None ≡ Some r → shape n ws later ≡ Some r
 shape-some n ws r later e = go (ltb 131072 n) (words_wrong n ws) e
@@ -114,6 +146,21 @@ unrefused o e = go (ltb 7 o.kind) (ltb 131072 (length o.cells)) (words_wrong (le
         let n = ltb-false 131072 (length o.cells) b in
         let l = length-offered o in
         (le-leb o.kind 7 k, le-leb (length (offered o)) 131072 (omega arith), c)
+
+-- a view that shows an offer of this kind and shape, whose rows are all of the kind
+pub shown : (o : Offer) (k : Kind) → known_kind o.kind ≡ Ok k → unless (shape (length o.cells) o.words None) ≡ Ok tt → stray_from (number_of k) 0 (offered o) ≡ None → (v : View)
+    → offer_seen v ≡ record { kind = number_of k; cells = o.cells; words = o.words } → Shown o v
+shown o k e g none v w =
+    let n : o.kind ≡ number_of k = known-is o.kind k e in
+    let right = shape-right (length o.cells) o.words g in
+    let free = refused-stray o (known-few o.kind k e) right None (ap (λ z. stray_from z 0 (offered o)) n ∙ none) in
+    let same : offer_seen v ≡ o = w ∙ (λ i. record { kind = sym n i; cells = o.cells; words = o.words }) in
+    record {
+      unrefused = free;
+      same = same;
+      sound = record { few = v.few; words = v.worded };
+      clean = subst (λ p. Clean (cleaned p)) (sym same) (unrefused o free);
+    }
 
 -- ---- the words of n rows
 

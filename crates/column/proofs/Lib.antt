@@ -1,5 +1,6 @@
 pub mod RowLaws
 pub mod WordLaws
+pub mod NextLaws
 pub mod KindLaws
 pub mod StrayLaws
 pub mod BlankLaws

@@ -1,15 +1,14 @@
 -- The first row outside its kind, block by block; refusals.
-use Rattle.std.proofs.Common.{◌≡◌, ℕ, zero, suc, ◌+◌, ◌-◌, ◌*◌, ◌/◌, ◌%◌, ◌^◌, ◌<◌, ◌≤◌, min, Bool, true, false, List, [], ◌∷◌, ◌++◌, length, get_or, take, drop, Some, None, Option, sym, refl, ap, ◌∙◌, inl, inr, add-zero, arith, length-drop}
+use Rattle.std.proofs.Common.{◌≡◌, ℕ, zero, suc, ◌+◌, ◌/◌, ◌%◌, ◌^◌, ◌<◌, ◌≤◌, Bool, true, false, List, [], ◌∷◌, ◌++◌, length, get_or, drop, Some, None, Option, sym, refl, ap, ◌∙◌, inl, inr, add-zero, arith}
 use Rattle.std.specs.List.{AllByRecursion}
-use Rattle.std.proofs.lemmas.Bool.{cases_lt}
-use Rattle.std.proofs.lemmas.List.{length-take-le}
 use Rattle.std.proofs.ByRecursion.{All-weaker}
 use Rattle.packing.specs.Packing.{digits}
 use Rattle.column.specs.Kinds.{in_kind}
 use Rattle.column.specs.Columns.{Row, row_of, rows_of, values_of, stray_by, stray_from}
 use Rattle.column.specs.Views.{block_rows}
 use Rattle.column.proofs.RowLaws.{row-set, row-unset, all-rows}
-use Rattle.column.proofs.WordLaws.{Words, word_rows, block_more, block-end, block_start, length-block, rows_more, rows_none}
+use Rattle.column.proofs.WordLaws.{Words, word_rows, block_more, block-end, block_start, length-block, rows_none}
+use Rattle.column.proofs.NextLaws.{Next, next-last, next-rows}
 
 apart : {X : Type 0} {n : ℕ} → ◌≡◌ {A = Option ℕ} (Some n) None → X
 apart e = absurd (let z : ◌≡◌ {A = ℕ} 0 1 = cc in omega arith)
@@ -89,38 +88,24 @@ stray-start k s w xs = λ i. stray_from k (add-zero s i) (block_start w xs i)
 
 -- ---- block by block
 
-strays-split : (k : ℕ) (words cells : List ℕ) (b s e : ℕ) (goal : Option ℕ) → Words words → b < length words → s ≡ 64 * b → s ≤ length cells → e ≡ min (s + 64) (length cells)
-    → stray_from k (64 * b) (word_rows (drop b words) (drop (64 * b) cells)) ≡ goal
-    → stray_from k s (block_rows (get_or words b 0) (take (e - s) (drop s cells)) ++ word_rows (drop (b + 1) words) (drop (64 * (b + 1)) cells)) ≡ goal
-strays-split k words cells b s e goal a h q l m now =
-    ap (stray_from k s) (sym (rows_more words cells b s e a h q l m)) ∙ ap (λ z. stray_from k z (word_rows (drop b words) (drop (64 * b) cells))) q ∙ now
+module _ {ws cs : List ℕ} {word : ℕ} {block ws2 cs2 : List ℕ} {goal : Option ℕ} (k s : ℕ) (n : Next ws cs word block ws2 cs2) (now : stray_from k s (word_rows ws cs) ≡ goal) where
+  strays-split : stray_from k s (block_rows word block ++ word_rows ws2 cs2) ≡ goal
+  strays-split = ap (stray_from k s) (sym (next-rows n)) ∙ now
 
--- nothing stray in the block: on to the next
-pub strays-more : (k : ℕ) (words cells : List ℕ) (b s e : ℕ) (goal : Option ℕ) → Words words → b < length words → s ≡ 64 * b → s ≤ length cells → e ≡ min (s + 64) (length cells)
-    → stray_from k (64 * b) (word_rows (drop b words) (drop (64 * b) cells)) ≡ goal
-    → stray_from k s (block_rows (get_or words b 0) (take (e - s) (drop s cells))) ≡ None
-    → stray_from k (64 * (b + 1)) (word_rows (drop (b + 1) words) (drop (64 * (b + 1)) cells)) ≡ goal
-strays-more k words cells b s e goal a h q l m now none =
-    let blk = block_rows (get_or words b 0) (take (e - s) (drop s cells)) in
-    let after = word_rows (drop (b + 1) words) (drop (64 * (b + 1)) cells) in
-    let moved : stray_from k (s + length blk) after ≡ goal = sym (stray-none k s blk after none) ∙ strays-split k words cells b s e goal a h q l m now in
-    elim (cases_lt (length cells) (64 * (b + 1))) [
-      | inl g ↦
-          let z : after ≡ [] = rows_none (drop (b + 1) words) cells (64 * (b + 1)) (omega (arith, g)) in
-          ap (stray_from k (64 * (b + 1))) z ∙ ap (stray_from k (s + length blk)) (sym z) ∙ moved
-      | inr g ↦
-          let n : length blk ≡ 64 = length-block (get_or words b 0) (take (e - s) (drop s cells)) ∙ length-take-le (e - s) (drop s cells) (omega (arith, g, length-drop s cells)) ∙ omega (arith, g) in
-          ap (λ z. stray_from k z after) (omega (arith, n)) ∙ moved
-    ]
+  -- nothing stray in the block: on to the next
+  pub strays-more : (s2 : ℕ) → s2 ≡ s + 64 → stray_from k s (block_rows word block) ≡ None → stray_from k s2 (word_rows ws2 cs2) ≡ goal
+  strays-more s2 e none =
+      let blk = block_rows word block in
+      let after = word_rows ws2 cs2 in
+      let moved : stray_from k (s + length blk) after ≡ goal = sym (stray-none k s blk after none) ∙ strays-split in
+      elim (next-last n) [
+        | inl l ↦ let z : after ≡ [] = rows_none ws2 cs2 l in ap (stray_from k s2) z ∙ ap (stray_from k (s + length blk)) (sym z) ∙ moved
+        | inr l ↦ ap (λ z. stray_from k z after) (omega (arith, e, l, length-block word block)) ∙ moved
+      ]
 
--- the block's first is the first of all
-pub strays-stop : (k : ℕ) (words cells : List ℕ) (b s e r : ℕ) (goal : Option ℕ) → Words words → b < length words → s ≡ 64 * b → s ≤ length cells → e ≡ min (s + 64) (length cells)
-    → stray_from k (64 * b) (word_rows (drop b words) (drop (64 * b) cells)) ≡ goal
-    → stray_from k s (block_rows (get_or words b 0) (take (e - s) (drop s cells))) ≡ Some r
-    → Some r ≡ goal
-strays-stop k words cells b s e r goal a h q l m now some =
-    sym (stray-some k s r (block_rows (get_or words b 0) (take (e - s) (drop s cells))) (word_rows (drop (b + 1) words) (drop (64 * (b + 1)) cells)) some)
-    ∙ strays-split k words cells b s e goal a h q l m now
+  -- the block's first is the first of all
+  pub strays-stop : (r : ℕ) → stray_from k s (block_rows word block) ≡ Some r → Some r ≡ goal
+  strays-stop r some = sym (stray-some k s r (block_rows word block) (word_rows ws2 cs2) some) ∙ strays-split
 
-pub strays-end : (k b : ℕ) (words cells : List ℕ) (goal : Option ℕ) → length cells ≤ 64 * b → stray_from k (64 * b) (word_rows (drop b words) (drop (64 * b) cells)) ≡ goal → None ≡ goal
-strays-end k b words cells goal h now = ap (stray_from k (64 * b)) (sym (rows_none (drop b words) cells (64 * b) h)) ∙ now
+pub strays-end : (k s : ℕ) (ws cs : List ℕ) (goal : Option ℕ) → length cs ≡ 0 → stray_from k s (word_rows ws cs) ≡ goal → None ≡ goal
+strays-end k s ws cs goal h now = ap (stray_from k s) (sym (rows_none ws cs h)) ∙ now

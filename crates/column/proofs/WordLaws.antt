@@ -1,15 +1,14 @@
 -- Presence words: their bits by rows, and rows by blocks of 64.
-use Rattle.std.proofs.Common.{◌≡◌, ℕ, zero, suc, ◌+◌, ◌-◌, ◌*◌, ◌/◌, ◌%◌, ◌^◌, ◌<◌, ◌≤◌, min, eqb, ltb, ◌⊎◌, List, [], ◌∷◌, ◌++◌, length, get_or, take, drop, None, sym, ap, ◌∙◌, inl, inr, mul_assoc, pow-suc, zero-add, zero-mul, mul-one, div-one, one-add, arith, length-drop, length-take, shr-shr}
+use Rattle.std.proofs.Common.{◌≡◌, ℕ, zero, suc, ◌+◌, ◌-◌, ◌*◌, ◌/◌, ◌%◌, ◌^◌, ◌<◌, ◌≤◌, eqb, ltb, ◌⊎◌, List, [], ◌∷◌, ◌++◌, length, get_or, drop, None, sym, ap, ◌∙◌, inl, inr, mul_assoc, pow-suc, zero-add, zero-mul, mul-one, div-one, one-add, arith, shr-shr}
 use native.Mathlib.Nat.{zero-div, div-eq_of_lt}
 use Rattle.std.specs.List.{AllByRecursion}
 use Rattle.std.proofs.lemmas.Bool.{cases_lt, lt-ltb, le-ltb, eq-eqb, ne_eqb}
 use Rattle.std.proofs.lemmas.Nat.{div-mul-add, mod_below, pow_pos, pow-add, shr_split}
-use Rattle.std.proofs.lemmas.List.{take-append-drop, length-take-le, drop-drop, drop_more, drop_all, take_all, nil_from_length}
-use Rattle.std.proofs.ByRecursion.{All-get_or}
+use Rattle.std.proofs.lemmas.List.{drop_more, drop_all, nil_from_length}
 use Rattle.packing.specs.Packing.{joined, digits}
 use Rattle.column.specs.Columns.{Row, Offer, row_of, rows_of, word_bits, words_for, offered}
 use Rattle.column.specs.Views.{is_value, block_rows}
-use Rattle.column.proofs.RowLaws.{length_digits, length-rows, digit_at, row_at, row_is, rows_append}
+use Rattle.column.proofs.RowLaws.{length_digits, length-rows, digit_at, row_at, row_is}
 
 -- each word is a 64-bit word
 abbrev pub Words : List ℕ → Type 0
@@ -70,7 +69,7 @@ row-present o i a h =
 -- ---- blocks
 
 -- d bits, and those of the number above them
-digits-split : (d w J : ℕ) (xs ys : List ℕ) → length xs ≤ d → (length ys ≡ 0) ⊎ (length xs ≡ d) → w < 2 ^ d
+pub digits-split : (d w J : ℕ) (xs ys : List ℕ) → length xs ≤ d → (length ys ≡ 0) ⊎ (length xs ≡ d) → w < 2 ^ d
     → digits 2 (length (xs ++ ys)) (J * 2 ^ d + w) ≡ digits 2 (length xs) w ++ digits 2 (length ys) J
 digits-split d w J [] ys l (inl e) h = ap (λ n. digits 2 n (J * 2 ^ d + w)) e ∙ sym (ap (λ n. digits 2 n J) e)
 digits-split d w J [] ys l (inr e) h =
@@ -86,15 +85,6 @@ digits-split (suc d) w J (x ∷ xs) ys l o h =
     let high : (J * 2 ^ suc d + w) / 2 ≡ J * 2 ^ d + w / 2 = omega arith in
     let o2 : (length ys ≡ 0) ⊎ (length xs ≡ d) = elim o [ inl q ↦ inl q | inr q ↦ inr (omega (arith, q)) ] in
     (λ i. low i ∷ digits 2 (length (xs ++ ys)) (high i)) ∙ ap (λ bs. w % 2 ∷ bs) (digits-split d (w / 2) J xs ys (omega arith) o2 (omega arith))
-
--- the bits of 64 cells are the first word's, and the later words have the later ones
-pub bits-block : (w : ℕ) (ws cells : List ℕ) → w < 2 ^ 64 → word_bits (length cells) (w ∷ ws) ≡ digits 2 (length (take 64 cells)) w ++ word_bits (length (drop 64 cells)) ws
-bits-block w ws cells h =
-    let xs = take 64 cells in
-    let ys = drop 64 cells in
-    let lx : length xs ≤ 64 = omega (arith, length-take 64 cells) in
-    let o : (length ys ≡ 0) ⊎ (length xs ≡ 64) = elim (cases_lt (length cells) 64) [ inl e ↦ inl (omega (arith, e, length-drop 64 cells)) | inr e ↦ inr (length-take-le 64 cells e) ] in
-    ap (λ z. word_bits (length z) (w ∷ ws)) (sym (take-append-drop 64 cells)) ∙ digits-split 64 w (joined (2 ^ 64) ws) xs ys lx o h
 
 -- the rows of a block from bit i on, by the first of them
 pub block_more : (w i : ℕ) (xs : List ℕ) → i < length xs → block_rows (w / 2 ^ i) (drop i xs) ≡ row_of (w / 2 ^ i % 2) (get_or xs i 0) ∷ block_rows (w / 2 ^ (i + 1)) (drop (i + 1) xs)
@@ -115,38 +105,9 @@ length-block w xs = length-rows (digits 2 (length xs) w) xs ∙ length_digits 2 
 abbrev pub word_rows : List ℕ → List ℕ → List Row
 word_rows ws cells = rows_of (word_bits (length cells) ws) cells
 
-pub rows-block : (w : ℕ) (ws cells : List ℕ) → w < 2 ^ 64 → word_rows (w ∷ ws) cells ≡ block_rows w (take 64 cells) ++ word_rows ws (drop 64 cells)
-rows-block w ws cells h =
-    let bs = digits 2 (length (take 64 cells)) w in
-    (λ i. rows_of (bits-block w ws cells h i) (sym (take-append-drop 64 cells) i))
-    ∙ rows_append bs (word_bits (length (drop 64 cells)) ws) (take 64 cells) (drop 64 cells) (length_digits 2 (length (take 64 cells)) w)
-
--- the part of a list from s to 64 on or the end
-pub block-is : (cells : List ℕ) (s e : ℕ) → s ≤ length cells → e ≡ min (s + 64) (length cells) → take (e - s) (drop s cells) ≡ take 64 (drop s cells)
-block-is cells s e h q =
-    let d = length-drop s cells in
-    elim (cases_lt (length cells) (s + 64)) [
-      | inl l ↦ take_all (e - s) (drop s cells) (omega (arith, l)) ∙ sym (take_all 64 (drop s cells) (omega (arith, l)))
-      | inr l ↦ let k : e - s ≡ 64 = omega (arith, l) in ap (λ n. take n (drop s cells)) k
-    ]
-
--- the rows from block b on: that block's, and those after it
-pub rows_more : (words cells : List ℕ) (b s e : ℕ) → Words words → b < length words → s ≡ 64 * b → s ≤ length cells → e ≡ min (s + 64) (length cells)
-    → word_rows (drop b words) (drop (64 * b) cells) ≡ block_rows (get_or words b 0) (take (e - s) (drop s cells)) ++ word_rows (drop (b + 1) words) (drop (64 * (b + 1)) cells)
-rows_more words cells b s e a h q l m =
-    let w = get_or words b 0 in
-    let after = drop (b + 1) words in
-    let here = drop (64 * b) cells in
-    let far : 64 * b + 64 ≡ 64 * (b + 1) = omega arith in
-    let next : drop 64 here ≡ drop (64 * (b + 1)) cells = drop-drop 64 (64 * b) cells ∙ ap (λ z. drop z cells) far in
-    let blk : take 64 here ≡ take (e - s) (drop s cells) = ap (λ z. take 64 (drop z cells)) (sym q) ∙ sym (block-is cells s e l m) in
-    ap (λ z. word_rows z here) (drop_more words b 0 h)
-    ∙ rows-block w after here (All-get_or (λ x. x < 2 ^ 64) words b 0 h a)
-    ∙ (λ i. block_rows w (blk i) ++ word_rows after (next i))
-
 -- no cells are left
-pub rows_none : (ws cells : List ℕ) (n : ℕ) → length cells ≤ n → word_rows ws (drop n cells) ≡ []
-rows_none ws cells n h = ap (word_rows ws) (drop_all n cells h)
+pub rows_none : (ws cells : List ℕ) → length cells ≡ 0 → word_rows ws cells ≡ []
+rows_none ws cells h = ap (word_rows ws) (nil_from_length cells h)
 
 -- ---- spare bits
 

@@ -1,11 +1,12 @@
 -- A cleaned column: a kind, and for each row a value or a blank. Nothing stands under a blank, so two calls that differ only there
 -- have the same column.
-use Rattle.std.specs.Prelude.{◌≡◌, ℕ, zero, suc, ◌+◌, ◌/◌, ◌^◌, ◌≤◌, Bool, true, false, not, ◌||◌, List, [], ◌∷◌, map, length, Some, None, Option, ◌==◌, nat_le, nat_lt}
+use Rattle.std.specs.Prelude.{◌≡◌, ℕ, zero, suc, ◌^◌, ◌≤◌, Bool, true, false, not, ◌||◌, List, [], ◌∷◌, map, length, Some, None, Option, ◌==◌, nat_le, nat_lt}
 use Rattle.packing.specs.Packing.{joined, digits}
 use Rattle.column.specs.declared.refusals.Refusal.{Refusal}
 use Rattle.column.specs.declared.refusals.Refusal.TheVariants.{UnknownKind, TooManyRows, BadPresence, ValueOutside}
 use Rattle.column.specs.declared.views.View.{View}
 use Rattle.column.specs.Kinds.{in_kind, number_of}
+pub use Rattle.column.specs.Words.{words_for}
 
 -- a value, as a 64-bit cell, or a blank
 abbrev pub Row : Type 0
@@ -94,10 +95,6 @@ stray_from k i (Some w ∷ rs) = stray_by (in_kind k w) i (stray_from k (suc i) 
 abbrev pub refuse_stray : Option ℕ → Option Refusal
 refuse_stray None = None
 refuse_stray (Some r) = Some (ValueOutside r)
-
--- words for n rows
-abbrev pub words_for : ℕ → ℕ
-words_for n = (n + 63) / 64
 
 -- not a word for each 64 rows, or a bit set past the last row
 abbrev pub words_wrong : ℕ → List ℕ → Bool

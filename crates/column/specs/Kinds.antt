@@ -1,6 +1,8 @@
 -- The eight kinds of whole numbers. A cell is a 64-bit word, two's complement for a signed kind.
-use Rattle.std.specs.Prelude.{ℕ, zero, suc, ◌+◌, ◌-◌, ◌*◌, ◌%◌, ◌^◌, Bool, true, false, ◌&&◌, List, Some, None, codes, Option, nat_le, nat_lt}
+use Rattle.std.specs.Prelude.{ℕ, zero, suc, ◌+◌, ◌-◌, ◌*◌, ◌%◌, ◌^◌, Bool, true, false, ◌&&◌, List, Some, None, Ok, Err, codes, Option, Result, nat_le, nat_lt}
 use Rattle.column.specs.declared.kinds.Kind.{Kind}
+use Rattle.column.specs.declared.refusals.Refusal.{Refusal}
+use Rattle.column.specs.declared.refusals.Refusal.TheVariants.{UnknownKind}
 use Rattle.column.specs.declared.kinds.Kind.TheVariants.{U8, U16, U32, U64, I8, I16, I32, I64}
 
 -- 0 to 3 are unsigned, 4 to 7 signed
@@ -25,6 +27,14 @@ kind_of (suc (suc (suc (suc (suc zero))))) = Some I16
 kind_of (suc (suc (suc (suc (suc (suc zero)))))) = Some I32
 kind_of (suc (suc (suc (suc (suc (suc (suc zero))))))) = Some I64
 kind_of (suc (suc (suc (suc (suc (suc (suc (suc n)))))))) = None
+
+-- that kind, or the refusal of a number that no kind has
+abbrev pub known : Option Kind → Result Kind Refusal
+known (Some k) = Ok k
+known None = Err UnknownKind
+
+abbrev pub known_kind : ℕ → Result Kind Refusal
+known_kind n = known (kind_of n)
 
 -- the bytes of its name
 abbrev pub name_of : Kind → List ℕ

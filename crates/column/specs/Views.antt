@@ -1,5 +1,5 @@
 -- What a view shows, and what does not matter to it.
-use Rattle.std.specs.Prelude.{◌≡◌, ℕ, Bool, true, false, List, length, Some, None, Ok, Err, Result, slice_index}
+use Rattle.std.specs.Prelude.{◌≡◌, ℕ, Bool, true, false, List, length, Some, None, Option, Ok, Err, Result, slice_index}
 use Rattle.packing.specs.Packing.{digits}
 use Rattle.column.specs.declared.refusals.Refusal.{Refusal}
 use Rattle.column.specs.declared.views.View.{View}
@@ -25,6 +25,11 @@ pub record Shown (o : Offer) (v : View) : Type 0 where
 abbrev pub Inspected : Offer → Result View Refusal → Type 0
 Inspected o (Ok v) = Shown o v
 Inspected o (Err e) = offer_refused o ≡ Some e
+
+-- granted, unless something turns the call away
+abbrev pub unless : Option Refusal → Result Unit Refusal
+unless None = Ok tt
+unless (Some e) = Err e
 
 -- ---- what stands under blanks
 

@@ -1,6 +1,8 @@
 // The eight kinds of whole numbers.
 ghost use Rattle.std.specs.Prelude.{◌≡◌, ℕ};
-ghost use Rattle.column.specs.Kinds.{number_of, kind_of, name_of, width as width_of, least as least_of, greatest as greatest_of, signed, key as key_of};
+ghost use Rattle.column.specs.Kinds.{number_of, known_kind, name_of, width as width_of, least as least_of, greatest as greatest_of, signed, key as key_of};
+
+use crate::refusals::Refusal;
 
 #[derive(Clone, Copy, PartialEq, Eq)]
 pub enum Kind {
@@ -14,28 +16,32 @@ pub enum Kind {
     I64,
 }
 
-impl Kind {
-    // The kind with this number, if there is one.
-    pub fn from_number(number: u8) -> Option<Kind>
-        ensures { result ≡ kind_of number }
-    {
+// By its number.
+impl TryFrom<u8> for Kind {
+    type Error = Refusal;
+
+    ghost try_from_gives = { λ number result. result ≡ known_kind number };
+
+    fn try_from(number: u8) -> Result<Kind, Refusal> {
         match number {
-            0 => Some(Kind::U8),
-            1 => Some(Kind::U16),
-            2 => Some(Kind::U32),
-            3 => Some(Kind::U64),
-            4 => Some(Kind::I8),
-            5 => Some(Kind::I16),
-            6 => Some(Kind::I32),
-            7 => Some(Kind::I64),
-            _ => None,
+            0 => Ok(Kind::U8),
+            1 => Ok(Kind::U16),
+            2 => Ok(Kind::U32),
+            3 => Ok(Kind::U64),
+            4 => Ok(Kind::I8),
+            5 => Ok(Kind::I16),
+            6 => Ok(Kind::I32),
+            7 => Ok(Kind::I64),
+            _ => Err(Refusal::UnknownKind),
         }
     }
+}
 
-    pub fn number(self) -> u8
-        ensures { result ≡ number_of self }
-    {
-        match self {
+impl From<Kind> for u8 {
+    ghost from_gives = { λ kind number. number ≡ number_of kind };
+
+    fn from(kind: Kind) -> u8 {
+        match kind {
             Kind::U8 => 0,
             Kind::U16 => 1,
             Kind::U32 => 2,
@@ -46,7 +52,9 @@ impl Kind {
             Kind::I64 => 7,
         }
     }
+}
 
+impl Kind {
     pub fn name(self) -> &'static str
         ensures { result.now ≡ name_of self }
     {

@@ -36,6 +36,7 @@ pub enum Refusal {
     ShortBuffers,
 }
 
+// Five questions that one definition answers, and no conversion: a number alone does not say which refusal it was.
 impl Refusal {
     pub fn number(self) -> u8
         ensures { result ≡ (said self).number }

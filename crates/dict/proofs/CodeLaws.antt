@@ -1,29 +1,12 @@
 -- Rows and their codes, one at a time.
-use Rattle.std.proofs.Common.{◌≡◌, ℕ, zero, suc, ◌+◌, ◌^◌, ◌<◌, ◌≤◌, true, false, List, [], ◌∷◌, ◌++◌, map, length, get_or, take, drop, set, Some, None, sym, refl, ap, ◌∙◌, subst, arith}
+use Rattle.std.proofs.Common.{◌≡◌, ℕ, zero, suc, ◌^◌, ◌<◌, true, false, List, [], ◌∷◌, map, length, get_or, Some, None, sym, refl, ap, ◌∙◌, subst, arith}
 use Rattle.std.specs.List.{AllByRecursion}
-use Rattle.std.proofs.lemmas.List.{append_assoc, append-nil, drop_all, drop_more, take_all, take_more_set}
 use Rattle.std.proofs.lemmas.Bool.{true≢false, false≢true}
 use Rattle.column.specs.Columns.{Row, Offer, cell_of, cells, row_of, values_of, values, cleaned, offered, word_bits}
 use Rattle.column.specs.Views.{is_value}
 use Rattle.column.proofs.RowLaws.{length_digits, row_at}
 use Rattle.packing.specs.Packing.{joined}
 use Rattle.dict.specs.Dict.{Known, place_of, code_row}
-
--- ---- a list put down element by element
-
-pub put-more : {X : Type 0} (f : X → ℕ) (xs : List X) (d : X) (out out2 goal : List ℕ) (i y : ℕ) → i < length xs → i < length out → y ≡ f (get_or xs i d) → out2 ≡ set out i y
-    → take i out ++ map f (drop i xs) ≡ goal → take (i + 1) out2 ++ map f (drop (i + 1) xs) ≡ goal
-put-more f xs d out out2 goal i y l m e o g =
-    let rest = map f (drop (i + 1) xs) in
-    ap (λ ys. ys ++ rest) (ap (take (i + 1)) o ∙ take_more_set out i y m)
-    ∙ append_assoc (take i out) (y ∷ []) rest
-    ∙ ap (λ x. take i out ++ (x ∷ rest)) e
-    ∙ ap (λ ys. take i out ++ map f ys) (sym (drop_more xs i d l))
-    ∙ g
-
-pub put_all : {X : Type 0} (f : X → ℕ) (xs : List X) (out goal : List ℕ) (i : ℕ) → length xs ≤ i → length out ≤ i → take i out ++ map f (drop i xs) ≡ goal → out ≡ goal
-put_all f xs out goal i l m g =
-    sym (append-nil out) ∙ (λ t. sym (take_all i out m) t ++ map f (sym (drop_all i xs l) t)) ∙ g
 
 -- ---- codes
 

@@ -1,6 +1,8 @@
--- The place of a value in an ascending list, by halves.
-use Rattle.std.proofs.Common.{◌≡◌, ℕ, zero, suc, ◌+◌, ◌<◌, ◌≤◌, Bool, true, false, eqb, ◌⊎◌, List, [], ◌∷◌, length, get_or, sym, refl, ap, inl, inr, arith}
-use Rattle.std.proofs.lemmas.Bool.{cases_lt, eqb-true}
+-- The place of a value in an ascending list.
+use Rattle.std.proofs.Common.{◌≡◌, ℕ, zero, suc, ◌<◌, ◌≤◌, Bool, true, false, eqb, ltb, ◌⊎◌, List, [], ◌∷◌, length, get_or, sym, refl, ap, inl, inr, zero-le, le_refl, arith}
+use Rattle.std.specs.List.Sorted.{IsNonDecreasingBy, IsPartitionPoint}
+use Rattle.std.proofs.lemmas.List.Sorted.{IsNonDecreasingBy-from_default}
+use Rattle.std.proofs.lemmas.Bool.{cases_lt, eqb-true, ltb-true, ltb-false}
 use Rattle.column.specs.Kinds.{key}
 use Rattle.stats.specs.Laws.{EachAfter, Ascends}
 use Rattle.dict.specs.Dict.{place_by, place_of}
@@ -25,25 +27,30 @@ place_at v (w ∷ ws) l = go (eqb v w) refl l (place_at v ws)
     go true e m ih = sym (eqb-true v w e)
     go false e m ih = ih (omega arith)
 
--- it is past an element that comes before it
-pub past-before : (k v : ℕ) (ds : List ℕ) (m : ℕ) → Ascends k ds → place_of v ds < length ds → m < length ds → key k (get_or ds m 0) < key k v → m + 1 ≤ place_of v ds
-past-before k v ds m a l h lt = go (cases_lt m (place_of v ds))
+-- the keys do not fall
+pub rises : (k : ℕ) (ds : List ℕ) → Ascends k ds → IsNonDecreasingBy (key k) ds
+rises k ds a = IsNonDecreasingBy-from_default (key k) ds 0 (λ i j h l. go i j h l (cases_lt i j))
   where
-    go : (m < place_of v ds) ⊎ (place_of v ds ≤ m) → m + 1 ≤ place_of v ds
-    go (inl x) = omega arith
-    go (inr x) = absurd (not-before (cases_lt (place_of v ds) m))
-      where
-        at : key k (get_or ds (place_of v ds) 0) ≡ key k v
-        at = ap (key k) (place_at v ds l)
+    go : (i j : ℕ) → i ≤ j → j < length ds → (i < j) ⊎ (j ≤ i) → key k (get_or ds i 0) ≤ key k (get_or ds j 0)
+    go i j h l (inl x) = let u = ascends-at k ds i j a x l in omega arith
+    go i j h l (inr x) = let z : i ≡ j = omega arith in let e = ap (λ n. key k (get_or ds n 0)) z in omega arith
 
-        not-before : (place_of v ds < m) ⊎ (m ≤ place_of v ds) → ⊥
-        not-before (inl y) = let u = ascends-at k ds (place_of v ds) m a y h in let e = at in omega arith
-        not-before (inr y) = let z : place_of v ds ≡ m = omega arith in let e = at in let f = ap (λ x. key k (get_or ds x 0)) z in omega arith
-
--- and not past one that does not
-pub not-past : (k v : ℕ) (ds : List ℕ) (m : ℕ) → Ascends k ds → place_of v ds < length ds → key k v ≤ key k (get_or ds m 0) → place_of v ds ≤ m
-not-past k v ds m a l le = go (cases_lt m (place_of v ds))
+-- what comes before a value that stands in the list ends at its place
+pub at-point : (k v : ℕ) (ds : List ℕ) (i : ℕ) → Ascends k ds → place_of v ds < length ds
+    → IsPartitionPoint (λ y. ltb (key k y) (key k v) ≡ true) (λ y. ltb (key k y) (key k v) ≡ false) ds i → i ≡ place_of v ds
+at-point k v ds i a l h = go (cases_lt i (place_of v ds)) (cases_lt (place_of v ds) i)
   where
-    go : (m < place_of v ds) ⊎ (place_of v ds ≤ m) → place_of v ds ≤ m
-    go (inr x) = x
-    go (inl x) = let u = ascends-at k ds m (place_of v ds) a x l in let e = ap (key k) (place_at v ds l) in absurd (omega arith)
+    at : key k (get_or ds (place_of v ds) 0) ≡ key k v
+    at = ap (key k) (place_at v ds l)
+
+    go : (i < place_of v ds) ⊎ (place_of v ds ≤ i) → (place_of v ds < i) ⊎ (i ≤ place_of v ds) → i ≡ place_of v ds
+    go (inl x) y =
+        let u = ascends-at k ds i (place_of v ds) a x l in
+        let e = at in
+        let f : key k v ≤ key k (get_or ds i 0) = ltb-false _ _ (h.1 i 0 (le_refl i) (omega arith)) in
+        absurd (omega arith)
+    go (inr x) (inl y) =
+        let e = at in
+        let f : key k (get_or ds (place_of v ds) 0) < key k v = ltb-true _ _ (h.0 (place_of v ds) 0 zero-le y) in
+        absurd (omega arith)
+    go (inr x) (inr y) = omega arith

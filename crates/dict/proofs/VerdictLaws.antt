@@ -1,6 +1,7 @@
 -- The answer, by how many values are distinct.
-use Rattle.std.proofs.Common.{◌≡◌, ℕ, zero, suc, ◌+◌, ◌*◌, ◌/◌, ◌≤◌, Bool, true, false, ◌||◌, eqb, ltb, length, Some, None, Option, sym, refl, ap, ◌∙◌, arith}
+use Rattle.std.proofs.Common.{◌≡◌, ℕ, zero, suc, ◌+◌, ◌*◌, ◌/◌, ◌<◌, ◌≤◌, Bool, true, false, ◌||◌, eqb, ltb, length, Some, None, Option, sym, refl, ap, ◌∙◌, arith}
 use lib.Ieee.{Float}
+use Rattle.std.specs.Option.{SomeIff, unwrap_or}
 use Rattle.std.proofs.lemmas.Bool.{ltb-false, true≢false}
 use Rattle.packing.specs.Packing.{bit_length}
 use Rattle.stats.specs.Stats.{Distinct, count_in, quotient}
@@ -10,12 +11,11 @@ use Rattle.dict.specs.Dict.{codes_size, dict_verdict_by, dict_verdict}
 
 -- ---- sizes
 
-pub runs_none : (n a : ℕ) → a ≡ 0 → 0 ≡ quotient n a
-runs_none n a e = ap (quotient n) (sym e)
-
-pub runs-some : (n a : ℕ) → (a ≡ 0 → ⊥) → n / a ≡ quotient n a
-runs-some n zero h = absurd (h refl)
-runs-some n (suc a) h = refl
+pub divided : (n a r : ℕ) (o : Option ℕ) → SomeIff o (0 < a) (n / a) → r ≡ unwrap_or o 0 → r ≡ quotient n a
+divided n zero r None h e = e
+divided n zero r (Some x) h e = let l = h.0 in absurd (omega arith)
+divided n (suc a) r None h e = absurd (h (omega arith))
+divided n (suc a) r (Some x) h e = e ∙ h.1
 
 pub not_more : (n m : ℕ) → (eqb n 0 || ltb (n / 2) m) ≡ false → m ≤ n / 2
 not_more n m e = go (eqb n 0) e

@@ -1,6 +1,6 @@
 // Values and their places among the distinct ones.
 ghost use Rattle.std.specs.Prelude.{◌≡◌, ◌+◌, ◌*◌, ◌<◌, ◌≤◌, map, length, take, nat_lt};
-ghost use Rattle.column.specs.Columns.{Sound, cells as cells_of, seen, values};
+ghost use Rattle.column.specs.Columns.{cells as cells_of, seen, values};
 ghost use Rattle.column.specs.Kinds.{key, number_of};
 ghost use Rattle.dict.specs.Dict.{Known, distinct_values, code_row, decoded_cells, place_of};
 ghost use Rattle.stats.specs.Laws.{Ascends};
@@ -13,7 +13,6 @@ use stats::options::GenerateStatsOptions;
 
 // The distinct values, ascending, to the front of `out`; how many they are.
 pub fn list_distinct(array: View<'_>, out: &mut [u64], mem: &mut [u64]) -> usize
-    requires sound { Sound array }
     requires room { length array.cells.now ≤ length out.old }
     requires spared { 2 * length array.cells.now + 64 ≤ length mem.old }
     ensures front { take result out.new ≡ distinct_values (seen array.entry) }
@@ -35,38 +34,21 @@ fn place_of(kind: Kind, distinct: &[u64], value: u64) -> usize
     requires known { place_of value distinct.now < length distinct.now }
     ensures { result ≡ place_of value distinct.now }
 {
-    let mut low = 0;
-    let mut high = distinct.len();
-    while low < high {
-        let mid = low + (high - low) / 2;
-        if comes_before(kind, distinct[mid], value) {
-            low = mid + 1;
-        } else {
-            high = mid;
-        }
-    }
-    low
-}
-
-// In the kind's order.
-fn comes_before(kind: Kind, a: u64, b: u64) -> bool
-    ensures { result ≡ nat_lt (key (number_of kind) a) (key (number_of kind) b) }
-{
-    kind.key(a) < kind.key(b)
+    let key = kind.key(value);
+    distinct.partition_point(|other| kind.key(*other) < key)
 }
 
 // The place of each row's value, 0 under blanks.
 pub fn encode(array: View<'_>, distinct: &[u64], out: &mut [u64])
-    requires sound { Sound array }
     requires ascends { Ascends (number_of array.kind) distinct.now }
     requires known { Known distinct.now (values (seen array)) }
     requires room { length out.old ≡ length array.cells.now }
     ensures { out.new ≡ cells_of (map (code_row distinct.now) (seen array.entry).rows) }
 {
-    let cells = array.cells;
-    for i in 0..cells.len() {
-        out[i] = if array.is_present(i) {
-            place_of(array.kind, distinct, cells[i]) as u64
+    // By place: no proof knows what is written through an `iter_mut` under `zip`.
+    for (i, code) in out.iter_mut().enumerate() {
+        *code = if array.is_present(i) {
+            place_of(array.kind, distinct, array.cells[i]) as u64
         } else {
             0
         };
@@ -78,7 +60,8 @@ pub fn decode(codes: &[u64], distinct: &[u64], out: &mut [u64])
     requires room { length out.old ≡ length codes.now }
     ensures { out.new ≡ decoded_cells distinct.now codes.now }
 {
-    for i in 0..codes.len() {
-        out[i] = value_at(distinct, codes[i] as usize);
+    // By place: no proof knows what is written through an `iter_mut` under `zip`.
+    for (i, cell) in out.iter_mut().enumerate() {
+        *cell = value_at(distinct, codes[i] as usize);
     }
 }

@@ -20,7 +20,7 @@ fn is_useless(values: u32, distinct: u32) -> bool
 fn size(values: u32, width: u32) -> u64
     ensures { result ≡ values * width }
 {
-    values as u64 * width as u64
+    u64::from(values) * u64::from(width)
 }
 
 // The bits of the codes: each by itself, or their runs with 32 bits for each end.
@@ -29,7 +29,7 @@ fn codes_size(bits: u32, values: u32, average: u32) -> u64
     ensures value { result ≡ codes_size bits values average }
     ensures small { result < 2 ^ 38 }
 {
-    let runs = if average == 0 { 0 } else { values / average };
+    let runs = values.checked_div(average).unwrap_or(0);
     size(values, bits).min(size(runs, bits + 32))
 }
 
@@ -46,7 +46,7 @@ pub fn estimate(kind: Kind, stats: &IntegerStats) -> EstimateVerdict
     }
     let width = kind.width();
     let codes = codes_size(
-        bit_length(distinct as u64),
+        bit_length(u64::from(distinct)),
         values,
         stats.average_run_length(),
     );

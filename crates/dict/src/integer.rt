@@ -7,14 +7,14 @@ ghost use Rattle.dict.specs.DictKeeps.{dict-keeps};
 
 use crate::codes::{decode, encode, list_distinct};
 use crate::estimate::estimate;
+use column::cleaned::Cleaned;
 use column::kinds::Kind;
-use column::views::View;
 use node::leaves::read_mask;
 use scheme::children::narrowest;
 use scheme::ctx::CompressorContext;
 use scheme::estimate::{CompressionEstimate, EstimateScore, EstimateVerdict};
 use scheme::exclusion::{AncestorExclusion, DescendantExclusion};
-use scheme::scheme::{ArrayAndStats, ChildShape, Scheme, Shape, Stored};
+use scheme::scheme::{ArrayAndStats, ChildShape, RowRefused, Scheme, Shape, Stored};
 use stats::options::GenerateStatsOptions;
 use stats::values::gather;
 
@@ -60,7 +60,7 @@ impl Scheme for IntDictScheme {
         _ctx: &CompressorContext,
         _mem: &mut [u64],
     ) -> CompressionEstimate {
-        CompressionEstimate::Verdict(estimate(col.array.kind, col.stats))
+        CompressionEstimate::Verdict(estimate(col.array.view.kind, col.stats))
     }
 
     fn verdict(
@@ -75,24 +75,25 @@ impl Scheme for IntDictScheme {
 
     fn shape(
         &self,
-        array: View<'_>,
+        array: Cleaned<'_>,
         cells0: &mut [u64],
         words0: &mut [u64],
         cells1: &mut [u64],
         words1: &mut [u64],
         mem: &mut [u64],
-    ) -> Result<Shape, u32> {
-        let rows = array.rows();
-        let count = list_distinct(array, cells0, mem);
+    ) -> Result<Shape, RowRefused> {
+        let view = array.view;
+        let rows = view.rows();
+        let count = list_distinct(view, cells0, mem);
         read_mask(0, &[], count, words0);
-        encode(array, &cells0[0..count], &mut cells1[0..rows]);
-        words1[0..array.words.len()].copy_from_slice(array.words);
+        encode(view, &cells0[0..count], &mut cells1[0..rows]);
+        words1[0..view.words.len()].copy_from_slice(view.words);
         Ok(Shape {
             payload: 0,
             cell_bits: 0,
             flag: 0,
             child0: ChildShape {
-                kind: array.kind,
+                kind: view.kind,
                 rows: count,
             },
             child1: ChildShape {
@@ -102,7 +103,7 @@ impl Scheme for IntDictScheme {
         })
     }
 
-    fn payload(&self, _array: View<'_>, _mem: &mut [u64], _out: &mut [u8]) {}
+    fn payload(&self, _array: Cleaned<'_>, _mem: &mut [u64], _out: &mut [u8]) {}
 
     fn join(&self, stored: Stored<'_>, mem: &mut [u64], cells: &mut [u64], words: &mut [u64]) {
         let codes = stored.child1;
@@ -110,7 +111,7 @@ impl Scheme for IntDictScheme {
             words.fill(0);
             return;
         }
-        let count = gather(stored.child0.cells, stored.child0.words, mem);
+        let count = gather(stored.child0, mem);
         decode(codes.cells, &mem[0..count], cells);
         words.copy_from_slice(codes.words);
     }

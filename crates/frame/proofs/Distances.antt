@@ -2,7 +2,7 @@
 use Rattle.std.proofs.Common.{◌≡◌, ℕ, zero, suc, ◌+◌, ◌-◌, ◌%◌, ◌^◌, ◌<◌, ◌≤◌, Bool, true, false, cond, List, [], ◌∷◌, ◌++◌, map, length, get_or, take, drop, set, Some, None, sym, ap, ◌∙◌, subst, append-nil, arith}
 use Rattle.std.specs.List.{AllByRecursion}
 use Rattle.std.proofs.lemmas.List.Edits.{map_over_more}
-use Rattle.std.proofs.lemmas.List.{append_assoc, drop_all, drop_more, get_or_default, take_all, take_more_set}
+use Rattle.std.proofs.lemmas.List.{drop_all, get_or_default, take_all}
 use Rattle.packing.specs.Packing.{joined, Below}
 use Rattle.column.specs.declared.views.View.{View}
 use Rattle.column.specs.Kinds.{number_of, signed, key_by}
@@ -51,20 +51,6 @@ distance_is v m i p d h e l ep ed =
         ∙ ap (λ q. cond q ((w + (2 ^ 64 - m)) % 2 ^ 64) 0) (ep ∙ ap is_value r)
         ∙ subtracted (signed k) m w (bounds k m from-base.inside).word (bounds k w f.inside).word f.after
         ∙ ap (over_base k m) (sym r)
-
--- one more row
-pub written-more : (f : Row → ℕ) (rs : List Row) (i : ℕ) (out : List ℕ) (y : ℕ) (goal : List ℕ) → i < length rs → i < length out → y ≡ f (get_or rs i None)
-    → take i out ++ map f (drop i rs) ≡ goal → take (i + 1) (set out i y) ++ map f (drop (i + 1) rs) ≡ goal
-written-more f rs i out y goal h l e now =
-    ap (λ xs. xs ++ map f (drop (i + 1) rs)) (take_more_set out i y l)
-    ∙ append_assoc (take i out) (y ∷ []) (map f (drop (i + 1) rs))
-    ∙ ap (λ x. take i out ++ (x ∷ map f (drop (i + 1) rs))) e
-    ∙ ap (λ xs. take i out ++ map f xs) (sym (drop_more rs i None h))
-    ∙ now
-
-pub written_all : (f : Row → ℕ) (rs : List Row) (i : ℕ) (out goal : List ℕ) → length rs ≤ i → length out ≤ i → take i out ++ map f (drop i rs) ≡ goal → out ≡ goal
-written_all f rs i out goal h l now =
-    sym (append-nil out) ∙ ap (λ xs. xs ++ []) (sym (take_all i out l)) ∙ ap (λ xs. take i out ++ map f xs) (sym (drop_all i rs h)) ∙ now
 
 -- ---- the payload by what was measured
 

@@ -6,13 +6,14 @@ ghost use Rattle.frame.specs.FrameLaws.{frame-keeps};
 
 use crate::payloads::{payload_len, read_least, read_values, write_distances, write_payload};
 use crate::reference::{Reference, bits_needed};
-use crate::verdicts::{under_mark, unmarked};
+use crate::verdicts::unmarked;
+use column::cleaned::Cleaned;
 use column::kinds::Kind;
-use column::views::View;
+use node::extent::Extent;
 use scheme::ctx::CompressorContext;
 use scheme::estimate::{CompressionEstimate, DeferredEstimate, EstimateScore, EstimateVerdict};
 use scheme::exclusion::{AncestorExclusion, DescendantExclusion};
-use scheme::scheme::{ArrayAndStats, ChildShape, Scheme, Shape, Stored};
+use scheme::scheme::{ArrayAndStats, ChildShape, RowRefused, Scheme, Shape, Stored};
 use stats::options::GenerateStatsOptions;
 
 pub mod facts;
@@ -70,39 +71,38 @@ impl Scheme for FrameScheme {
         mark: Option<EstimateScore>,
         _mem: &mut [u64],
     ) -> EstimateVerdict {
-        let kind = col.array.kind;
+        let kind = col.array.view.kind;
         let bits = bits_needed(kind, col.stats);
-        under_mark(mark, unmarked(kind.width(), bits))
+        unmarked(kind.width(), bits).under_mark(mark)
     }
 
     fn shape(
         &self,
-        array: View<'_>,
+        array: Cleaned<'_>,
         _cells0: &mut [u64],
         _words0: &mut [u64],
         _cells1: &mut [u64],
         _words1: &mut [u64],
         mem: &mut [u64],
-    ) -> Result<Shape, u32> {
-        let bits = Reference::of(array, mem).bits;
-        let has_blank = array.has_blank();
-        let payload = payload_len(array.kind, bits, array.rows(), has_blank);
+    ) -> Result<Shape, RowRefused> {
+        let reference = Reference::of(array.view, mem);
+        let extent = Extent::of(array.view);
         let none = ChildShape {
-            kind: array.kind,
+            kind: extent.kind,
             rows: 0,
         };
         Ok(Shape {
-            payload,
-            cell_bits: bits as u8,
-            flag: has_blank as u8,
+            payload: payload_len(extent, reference),
+            cell_bits: reference.bits as u8,
+            flag: u8::from(extent.has_blank),
             child0: none,
             child1: none,
         })
     }
 
-    fn payload(&self, array: View<'_>, mem: &mut [u64], out: &mut [u8]) {
-        let reference = Reference::of(array, mem);
-        let rows = array.rows();
+    fn payload(&self, array: Cleaned<'_>, mem: &mut [u64], out: &mut [u8]) {
+        let reference = Reference::of(array.view, mem);
+        let rows = array.view.rows();
         let distances = &mut mem[0..rows];
         write_distances(array, reference.least, distances);
         write_payload(array, reference, distances, out);

@@ -1,10 +1,9 @@
 // What a column's values are measured from.
 ghost use Rattle.std.specs.Prelude.{◌≡◌, ◌+◌, ◌*◌, ◌≤◌, [], length};
-ghost use Rattle.column.specs.Columns.{seen, values, Sound};
+ghost use Rattle.column.specs.Columns.{seen, values};
 ghost use Rattle.column.specs.Kinds.{number_of};
 ghost use Rattle.frame.specs.Frame.{frame_bits, base, column_bits};
 ghost use Rattle.stats.specs.Seen.{stats_seen};
-ghost use Rattle.stats.specs.Stats.{max_minus_min};
 
 use column::kinds::Kind;
 use column::views::View;
@@ -12,22 +11,12 @@ use packing::bit_length;
 use stats::integer::IntegerStats;
 use stats::options::GenerateStatsOptions;
 
-// The greatest value less the least, 0 without one.
-fn max_minus_min(kind: Kind, stats: &IntegerStats) -> u64
-    ensures { result ≡ max_minus_min (number_of kind) (stats_seen stats.now []) }
-{
-    if stats.value_count() == 0 {
-        return 0;
-    }
-    kind.key(stats.max()).saturating_sub(kind.key(stats.min()))
-}
-
 // The bits that the greatest distance needs.
 pub fn bits_needed(kind: Kind, stats: &IntegerStats) -> u32
     ensures value { result ≡ frame_bits (number_of kind) (stats_seen stats.now []) }
     ensures few { result ≤ 64 }
 {
-    bit_length(max_minus_min(kind, stats))
+    bit_length(stats.max_minus_min_in(kind))
 }
 
 // The least value, 0 without one, and the bits of the greatest distance from it.
@@ -35,15 +24,14 @@ pub fn bits_needed(kind: Kind, stats: &IntegerStats) -> u32
 pub struct Reference {
     pub least: u64,
     pub bits: u32,
+    ghost few: { bits ≤ 64 },
 }
 
 impl Reference {
     pub fn of(array: View<'_>, mem: &mut [u64]) -> Reference
-        requires sound { Sound array }
         requires room { 2 * length array.cells.now + 64 ≤ length mem.old }
         ensures least { result.least ≡ base (number_of array.entry.kind) (values (seen array.entry)) }
         ensures bits { result.bits ≡ column_bits (seen array.entry) }
-        ensures few { result.bits ≤ 64 }
     {
         let opts = GenerateStatsOptions {
             count_distinct_values: false,

@@ -1,6 +1,8 @@
 -- A column's line gives the column again.
-use Rattle.std.proofs.Common.{◌≡◌, ℕ, suc, ◌+◌, ◌-◌, ◌*◌, ◌/◌, ◌%◌, ◌^◌, ◌<◌, ◌≤◌, Bool, true, false, cond, eqb, leb, List, [], ◌∷◌, ◌++◌, map, length, Some, None, decimal, Option, sym, refl, ap, ◌∙◌, subst, ap₂, arith}
-use Rattle.std.specs.List.{AllByRecursion}
+use Rattle.std.proofs.Common.{◌≡◌, ℕ, suc, ◌+◌, ◌-◌, ◌*◌, ◌/◌, ◌%◌, ◌^◌, ◌<◌, ◌≤◌, Bool, true, false, cond, eqb, leb, List, [], ◌∷◌, ◌++◌, map, length, Some, None, decimal, Option, sym, refl, ap, ◌∙◌, subst, ap₂, append-nil, arith}
+use Rattle.std.specs.List.{All, AllByRecursion}
+use Rattle.std.proofs.lemmas.List.Elements.{All-nil, All-cons}
+use Rattle.std.proofs.lemmas.List.Splits.{slice_split_none, slice_split_at}
 use Rattle.std.proofs.lemmas.List.{length-map}
 use Rattle.std.proofs.lemmas.Fmt.{decimal_by_steps}
 use Rattle.std.proofs.lemmas.Bool.{le-leb, leb-true, leb-false, ne_eqb, and_from, and_parts, cond-true, cond-false, true≢false}
@@ -10,7 +12,9 @@ use Rattle.column.specs.Kinds.{number_of, kind_of, name_of, in_kind}
 use Rattle.column.specs.Columns.{Row, Column, Clean, stray_by, stray_from}
 use Rattle.column.proofs.InspectLaws.{kind-none, kind-some}
 use Rattle.column.proofs.KindLaws.{bounds}
-use Rattle.lines.specs.Lines.{comma, minus, fields_by, fields_of, rows_in, kind_named, is_digit, kept_if, number_after, number_of_digits, negated, furthest, word_of, cell_read, value_row, field_read, row_and, rows_read, column_with, column_read, kind_in, row_fields, line_read, is_below, field_of, rows_line, name_by, line_of}
+use Rattle.std.specs.Bool.{then_some}
+use Rattle.lines.specs.Lines.{comma, minus, fields_of, rows_in, kind_named, is_digit, number_after, negated, furthest, word_of, cell_read, value_row, field_read, row_and, rows_read, column_with, column_read, kind_in, row_fields, line_read, is_below, field_of, rows_line, name_by, line_of}
+use Rattle.lines.proofs.Digits.{digits-some}
 
 -- ---- the digits of a number
 
@@ -68,23 +72,19 @@ plain-digits : (ds : List ℕ) → AllByRecursion (λ c. is_digit c ≡ true) ds
 plain-digits [] h = tt
 plain-digits (d ∷ ds) h = (digit-apart d comma (omega arith) h.0, plain-digits ds h.1)
 
-digits-some : (ds : List ℕ) → 0 < length ds → number_of_digits ds ≡ number_after 0 ds
-digits-some [] h = absurd (omega arith)
-digits-some (d ∷ ds) h = refl
-
 unsigned-field : (k : ℕ) (ds : List ℕ) (n : ℕ) → Writes n ds → n ≤ furthest k false → field_read k ds ≡ Some (Some n)
 unsigned-field k [] n w h = absurd (omega (arith, w.some))
 unsigned-field k (d ∷ ds) n w h =
     ap value_row
     (cond-false (eqb d minus) _ _ (digit-apart d minus (omega arith) w.digits.0)
     ∙ ap (cell_read k false) w.value
-    ∙ ap (λ b. kept_if b n) (le-leb n (furthest k false) h))
+    ∙ ap (λ b. then_some b n) (le-leb n (furthest k false) h))
 
 signed-field : (k : ℕ) (ds : List ℕ) (n : ℕ) → Writes n ds → n ≤ furthest k true → field_read k (minus ∷ ds) ≡ Some (Some (negated n))
 signed-field k ds n w h =
     ap value_row
     (ap (cell_read k true) (digits-some ds w.some ∙ w.value)
-    ∙ ap (λ b. kept_if b (negated n)) (le-leb n (furthest k true) h))
+    ∙ ap (λ b. then_some b (negated n)) (le-leb n (furthest k true) h))
 
 -- the number of a cell, on its side of 0, is one of the kind
 record Numbered (k w : ℕ) (b : Bool) : Type 0 where
@@ -126,14 +126,16 @@ value-plain q w h =
 
 -- ---- the fields of a line
 
+all-from : (P : ℕ → Type 0) (xs : List ℕ) → AllByRecursion P xs → All P xs
+all-from P [] h = All-nil P
+all-from P (x ∷ xs) h = All-cons P x xs h.0 (all-from P xs h.1)
+
 -- a field before the end, and before a comma
 fields-end : (f : List ℕ) → AllByRecursion (λ c. eqb c comma ≡ false) f → fields_of (f ++ []) ≡ f ∷ []
-fields-end [] h = refl
-fields-end (c ∷ f) h = ap₂ (λ b fs. fields_by b c fs) h.0 (fields-end f h.1)
+fields-end f h = ap fields_of (append-nil f) ∙ slice_split_none (λ c. eqb c comma) f (all-from (λ c. eqb c comma ≡ false) f h)
 
 fields-comma : (f t : List ℕ) → AllByRecursion (λ c. eqb c comma ≡ false) f → fields_of (f ++ (comma ∷ t)) ≡ f ∷ fields_of t
-fields-comma [] t h = refl
-fields-comma (c ∷ f) t h = ap₂ (λ b fs. fields_by b c fs) h.0 (fields-comma f t h.1)
+fields-comma f t h = slice_split_at (λ c. eqb c comma) f comma t (all-from (λ c. eqb c comma ≡ false) f h) refl
 
 stray-head : (b : Bool) (i : ℕ) (o : Option ℕ) → stray_by b i o ≡ None → (b ≡ true) × (o ≡ None)
 stray-head true i o e = (refl, e)

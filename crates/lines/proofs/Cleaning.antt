@@ -10,7 +10,8 @@ use Rattle.column.specs.declared.kinds.Kind.TheVariants.{U8, U16, U32, U64, I8, 
 use Rattle.column.specs.Kinds.{number_of, in_kind}
 use Rattle.column.specs.Columns.{Row, Column, Clean, cell_of, bit_of, cells, bits, rows_of, word_bits, words_for, presence, offered, cleaned, offer_of, stray_by, stray_from}
 use Rattle.column.proofs.KindLaws.{in-kind}
-use Rattle.lines.specs.Lines.{minus, kept_if, furthest, word_of, cell_read, value_row, field_read, number_of_digits, row_and, rows_read}
+use Rattle.std.specs.Bool.{then_some}
+use Rattle.lines.specs.Lines.{minus, furthest, word_of, cell_read, value_row, field_read, number_of_digits, row_and, rows_read}
 
 -- ---- there and back
 
@@ -68,7 +69,7 @@ cell_in I32 false n h = in-kind 6 n (omega arith) (omega arith) (omega arith)
 cell_in I64 true n h = in-kind 7 ((2 ^ 64 - n) % 2 ^ 64) (omega arith) (omega arith) (omega arith)
 cell_in I64 false n h = in-kind 7 n (omega arith) (omega arith) (omega arith)
 
-kept-is : (b : Bool) (w v : ℕ) → kept_if b w ≡ Some v → (b ≡ true) × (w ≡ v)
+kept-is : (b : Bool) (w v : ℕ) → then_some b w ≡ Some v → (b ≡ true) × (w ≡ v)
 kept-is true w v e = (refl, cc)
 kept-is false w v e = let z : ◌≡◌ {A = ℕ} 0 1 = cc in absurd (omega arith)
 

@@ -1,46 +1,37 @@
 -- A line from its first field and the rows after it.
-use Rattle.std.proofs.Common.{◌≡◌, ℕ, ◌-◌, ◌≤◌, List, ◌∷◌, length, take, drop, is_some, Some, None, Ok, Err, Option, Result, sym, refl, ap, ◌∙◌, subst, arith}
+use Rattle.std.proofs.Common.{◌≡◌, ℕ, ◌≤◌, List, length, Some, None, Ok, Err, Option, Result, sym, ap, ◌∙◌, subst, arith}
 use Rattle.std.proofs.lemmas.Bool.{leb-true}
 use Rattle.column.specs.declared.kinds.Kind.{Kind}
 use Rattle.column.specs.Kinds.{number_of}
-use Rattle.column.specs.Columns.{Column, Clean, cleaned, offer_of}
+use Rattle.column.specs.Columns.{Row, Column, Clean, cleaned, offer_of}
 use Rattle.lines.specs.declared.columns.LineColumn.{LineColumn}
 use Rattle.lines.specs.declared.columns.LineError.{LineError}
 use Rattle.lines.specs.declared.columns.LineError.TheVariants.{Unreadable, TooManyRows, NoMemory}
-use Rattle.lines.specs.Answers.{Reads, RowsGiven, Back}
+use Rattle.lines.specs.Answers.{Given, Reads, Back}
 use Rattle.lines.specs.Held.{held}
-use Rattle.lines.specs.Lines.{fields_of, fields_after, before_comma, rows_in, kind_named, rows_read, column_with, column_read, kind_in, row_fields, line_read, line_of}
+use Rattle.lines.specs.Lines.{fields_of, rows_in, rows_read, column_with, column_read, kind_in, row_fields, line_read, line_of}
 use Rattle.lines.proofs.Back.{line-back}
 use Rattle.lines.proofs.Cleaning.{offer-back, read-clean}
-use Rattle.lines.proofs.Turns.{split_at}
 
-module _ (t : List ℕ) (e : ℕ) (at : e ≡ before_comma t) where
-  cut : fields_of t ≡ take (e - 0) t ∷ fields_after (take (length t - e) (drop e t))
-  cut = split_at t t e refl at
+module _ (t : List ℕ) where
+  pub no-kind : kind_in (fields_of t) ≡ None → line_read t ≡ None
+  no-kind h = ap (λ o. column_read o (row_fields (fields_of t))) h
 
-  pub rows-rest : rows_in t ≡ length (fields_after (take (length t - e) (drop e t)))
-  rows-rest = ap (λ fs. length (row_fields fs)) cut
+  module _ (q : Kind) (h : kind_in (fields_of t) ≡ Some q) where
+    pub line-is : line_read t ≡ column_with (number_of q) (rows_read (number_of q) (row_fields (fields_of t)))
+    line-is = ap (λ o. column_read o (row_fields (fields_of t))) h
 
-  pub no_name : None ≡ kind_named (take (e - 0) t) → line_read t ≡ None
-  no_name h = ap (λ fs. column_read (kind_in fs) (row_fields fs)) cut ∙ ap (λ o. column_read o (fields_after (take (length t - e) (drop e t)))) (sym h)
-
-  line-is : (q : Kind) → Some q ≡ kind_named (take (e - 0) t) → line_read t ≡ column_with (number_of q) (rows_read (number_of q) (fields_after (take (length t - e) (drop e t))))
-  line-is q h = ap (λ fs. column_read (kind_in fs) (row_fields fs)) cut ∙ ap (λ o. column_read o (fields_after (take (length t - e) (drop e t)))) (sym h)
-
-  pub reads-rows : (q : Kind) → Some q ≡ kind_named (take (e - 0) t) → rows_in t ≤ 131072 → (r : Result LineColumn LineError)
-      → RowsGiven (number_of q) (fields_after (take (length t - e) (drop e t))) r → Reads t r
-  reads-rows q h few (Ok l) g =
-      let c : Column = record { kind = number_of q; rows = g.0 } in
-      let back : cleaned (held l) ≡ c = ap cleaned g.2 ∙ offer-back c in
-      record {
-        few = few;
-        column = line-is q h ∙ ap (column_with (number_of q)) g.1 ∙ ap Some (sym back);
-        stored = g.2 ∙ ap offer_of (sym back);
-        clean = subst Clean (sym back) (read-clean q (fields_after (take (length t - e) (drop e t))) g.0 g.1 (omega (arith, rows-rest)));
-      }
-  reads-rows q h few (Err Unreadable) g = (few, line-is q h ∙ ap (column_with (number_of q)) g)
-  reads-rows q h few (Err TooManyRows) g = absurd g
-  reads-rows q h few (Err NoMemory) g = (omega (arith, rows-rest), few, ap (λ fs. is_some (kind_in fs)) cut ∙ sym (ap is_some h))
+    pub given-rows : rows_in t ≤ 131072 → (l : LineColumn) (rs : List Row) → rows_read (number_of q) (row_fields (fields_of t)) ≡ Some rs
+        → held l ≡ offer_of (record { kind = number_of q; rows = rs }) → Given t l
+    given-rows few l rs read is =
+        let c : Column = record { kind = number_of q; rows = rs } in
+        let back : cleaned (held l) ≡ c = ap cleaned is ∙ offer-back c in
+        record {
+          few = few;
+          column = line-is ∙ ap (column_with (number_of q)) read ∙ ap Some (sym back);
+          stored = is ∙ ap offer_of (sym back);
+          clean = subst Clean (sym back) (read-clean q (row_fields (fields_of t)) rs read few);
+        }
 
 same-column : (o : Option Column) (c d : Column) → o ≡ Some c → o ≡ Some d → c ≡ d
 same-column o c d e f = cc

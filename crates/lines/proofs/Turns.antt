@@ -1,89 +1,129 @@
--- The loop over the rows of a line.
-use Rattle.std.proofs.Common.{◌≡◌, ℕ, ◌+◌, ◌-◌, ◌/◌, ◌<◌, ◌≤◌, false, eqb, List, [], ◌∷◌, ◌++◌, length, take, drop, Some, None, vec_len, Option, sym, refl, ap, ◌∙◌, ap₂, append_assoc, arith}
-use Rattle.std.proofs.lemmas.List.{take_rest, length_push}
-use Rattle.std.proofs.lemmas.Bool.{false≢true}
-use Rattle.column.specs.Columns.{Row}
+-- The loop over the fields of a line.
+use Rattle.std.proofs.Common.{◌≡◌, ℕ, ◌+◌, ◌/◌, ◌<◌, ◌≤◌, List, [], ◌∷◌, ◌++◌, length, Some, None, Ok, Err, vec_len, Option, Bor, sym, refl, ap, ◌∙◌, subst, append_assoc, append-nil, arith}
+use Rattle.std.specs.Option.{MatchOption, ok_or}
+use Rattle.std.proofs.lemmas.Iterator.{YieldsList}
+use Rattle.std.proofs.lemmas.List.{length_push}
+use Rattle.column.specs.declared.kinds.Kind.{Kind}
+use Rattle.column.specs.Kinds.{number_of}
+use Rattle.column.specs.Columns.{Row, offer_of}
+use Rattle.lines.specs.declared.columns.LineColumn.{LineColumn}
+use Rattle.lines.specs.declared.columns.LineError.{LineError}
+use Rattle.lines.specs.declared.columns.LineError.TheVariants.{Unreadable}
 use Rattle.lines.specs.declared.rows.Rows.{Rows}
-use Rattle.lines.specs.Held.{Gathers}
-use Rattle.lines.specs.Lines.{fields_of, fields_after, before_comma, field_read, row_and, rows_read}
+use Rattle.lines.specs.Answers.{Given}
+use Rattle.lines.specs.Held.{Gathers, held}
+use Rattle.lines.specs.Lines.{fields_of, row_fields, rows_in, kind_in, kind_named, field_read, row_and, rows_read, column_with, line_read}
+use Rattle.lines.proofs.Lined.{line-is, given-rows}
 use Rattle.lines.proofs.Gathering.{count-is}
-use Rattle.lines.proofs.Texts.{fields-first}
+
+-- ---- an iterator that gives a list
+
+module _ {S A B : Type 0} (steps : S → Option A → S → Type 0) (v : A → B) (s t : S) where
+  pub yields-more : (ys : List B) (x : A) → YieldsList steps v s ys → steps s (Some x) t → (zs : List B) × (ys ≡ v x ∷ zs) × YieldsList steps v t zs
+  yields-more [] x y h = absurd (y.runs x t h)
+  yields-more (z ∷ zs) x y h = let m = y.runs.1 x t h in (zs, ap (λ w. w ∷ zs) (sym m.0), record { runs = m.1 })
+
+  pub yields-end : (ys : List B) → YieldsList steps v s ys → steps s None t → ys ≡ []
+  yields-end [] y h = refl
+  yields-end (z ∷ zs) y h = absurd (y.runs.0 t h)
+
+-- the first field names the kind, and the others are rows
+module _ {S : Type 0} (steps : S → Option (Bor (List ℕ)) → S → Type 0) (s t : S) (fs : List (List ℕ)) (y : YieldsList steps (λ f. f.now) s fs) where
+  pub kind-first : (o : Option (Bor (List ℕ))) (r : Option Kind) → steps s o t → MatchOption o (r ≡ None) (λ f. r ≡ kind_named f.now) → kind_in fs ≡ r
+  kind-first None r h e = ap kind_in (yields-end steps (λ f. f.now) s t fs y h) ∙ sym e
+  kind-first (Some f) r h e = ap kind_in (yields-more steps (λ f. f.now) s t fs f y h).1 ∙ sym e
+
+  pub rows-after : (o : Option (Bor (List ℕ))) (q : Kind) → steps s o t → MatchOption o (◌≡◌ {A = Option Kind} (Some q) None) (λ f. Some q ≡ kind_named f.now) → YieldsList steps (λ f. f.now) t (row_fields fs)
+  rows-after None q h e = cc
+  rows-after (Some f) q h e =
+      let m = yields-more steps (λ f. f.now) s t fs f y h in
+      subst (λ gs. YieldsList steps (λ f. f.now) t (row_fields gs)) (sym m.1) m.2
+
+-- ---- rows
 
 -- rows, and then those that follow
 abbrev pub onto : List Row → Option (List Row) → Option (List Row)
 onto rs None = None
 onto rs (Some ss) = Some (rs ++ ss)
 
--- the rows so far and what is left of the text give the rows of the whole
-pub record Turn (k : ℕ) (text rest : List ℕ) (b : Rows) : Type 0 where
-  pub rows : List Row
-  pub gathers : Gathers rows b
-  pub whole : onto rows (rows_read k (fields_after rest)) ≡ rows_read k (fields_after text)
-  pub count : length rows + length (fields_after rest) ≡ length (fields_after text)
-
--- the field after a comma, and what follows it
-pub split_at : (A cs : List ℕ) (e : ℕ) → A ≡ cs → e ≡ before_comma A → fields_of cs ≡ take (e - 0) A ∷ fields_after (take (length A - e) (drop e A))
-split_at A cs e h f =
-    ap fields_of (sym h) ∙ fields-first A
-    ∙ ap (λ n. take n A ∷ fields_after (drop n A)) (sym f)
-    ∙ ap₂ (λ n ds. take n A ∷ fields_after ds) (omega arith) (sym (take_rest A e))
-
-fields_split : (rest : List ℕ) (e : ℕ) → false ≡ eqb (length rest) 0 → e ≡ before_comma (take (length rest - 1) (drop 1 rest))
-    → fields_after rest ≡ take (e - 0) (take (length rest - 1) (drop 1 rest))
-    ∷ fields_after (take (length (take (length rest - 1) (drop 1 rest)) - e) (drop e (take (length rest - 1) (drop 1 rest))))
-fields_split [] e h f = absurd (false≢true h)
-fields_split (c ∷ cs) e h f = split_at (take (length (c ∷ cs) - 1) (drop 1 (c ∷ cs))) cs e (take_rest (c ∷ cs) 1) f
+onto-none : (o : Option (List Row)) → onto [] o ≡ o
+onto-none None = refl
+onto-none (Some ss) = refl
 
 onto-row : (rs : List Row) (r : Row) (o : Option (List Row)) → onto (rs ++ (r ∷ [])) o ≡ onto rs (row_and (Some r) o)
 onto-row rs r None = refl
 onto-row rs r (Some ss) = ap Some (append_assoc rs (r ∷ []) ss)
 
-module _ (k : ℕ) (text rest : List ℕ) (b : Rows) (e : ℕ)
-    (t : Turn k text rest b)
-    (some : false ≡ eqb (length rest) 0)
-    (at : e ≡ before_comma (take (length rest - 1) (drop 1 rest)))
-  where
+row-read : (o : Option Row) (r : Row) → Ok r ≡ ok_or o Unreadable → o ≡ Some r
+row-read None r e = cc
+row-read (Some s) r e = cc
+
+row-refused : (o : Option Row) (e : LineError) → Err e ≡ ok_or o Unreadable → (o ≡ None) × (e ≡ Unreadable)
+row-refused None e h = (refl, cc)
+row-refused (Some s) e h = let z : ◌≡◌ {A = ℕ} 0 1 = cc in absurd (omega arith)
+
+module _ {S : Type 0} (steps : S → Option (Bor (List ℕ)) → S → Type 0) (q : Kind) (t : List ℕ) where
+  -- the rows so far and the fields that are left give the rows of all fields
+  pub record Turn (left : S) (b : Rows) : Type 0 where
+    pub named : kind_in (fields_of t) ≡ Some q
+    pub fields : List (List ℕ)
+    pub yields : YieldsList steps (λ f. f.now) left fields
+    pub rows : List Row
+    pub gathers : Gathers rows b
+    pub whole : onto rows (rows_read (number_of q) fields) ≡ rows_read (number_of q) (row_fields (fields_of t))
+    pub count : length rows + length fields ≡ rows_in t
+
+  pub turn-first : kind_in (fields_of t) ≡ Some q → (left : S) (b : Rows) → YieldsList steps (λ f. f.now) left (row_fields (fields_of t)) → Gathers [] b → Turn left b
+  turn-first n left b y g =
+      let fs = row_fields (fields_of t) in
+      record { named = n; fields = fs; yields = y; rows = []; gathers = g; whole = onto-none (rows_read (number_of q) fs); count = omega arith }
+
+  module _ (left next : S) (b : Rows) (f : Bor (List ℕ)) (u : Turn left b) (step : steps left (Some f) next) where
     -- a row more
-    pub turn_more : (r : Row) (b2 : Rows) → Some r ≡ field_read k (take (e - 0) (take (length rest - 1) (drop 1 rest)))
-        → ((rs : List Row) → Gathers rs b → Gathers (rs ++ (r ∷ [])) b2)
-        → Turn k text (take (length (take (length rest - 1) (drop 1 rest)) - e) (drop e (take (length rest - 1) (drop 1 rest)))) b2
-    turn_more r b2 read push =
-        let A = take (length rest - 1) (drop 1 rest) in
-        let fs = fields_after (take (length A - e) (drop e A)) in
-        let split = fields_split rest e some at in
+    pub turn-more : (r : Row) (b2 : Rows) → Ok r ≡ ok_or (field_read (number_of q) f.now) Unreadable → ((rs : List Row) → Gathers rs b → Gathers (rs ++ (r ∷ [])) b2) → Turn next b2
+    turn-more r b2 read push =
+        let m = yields-more steps (λ f. f.now) left next u.fields f u.yields step in
+        let rest = rows_read (number_of q) m.0 in
         record {
-          rows = t.rows ++ (r ∷ []);
-          gathers = push t.rows t.gathers;
+          named = u.named;
+          fields = m.0;
+          yields = m.2;
+          rows = u.rows ++ (r ∷ []);
+          gathers = push u.rows u.gathers;
           whole =
-              onto-row t.rows r (rows_read k fs)
-              ∙ ap (λ o. onto t.rows (row_and o (rows_read k fs))) read
-              ∙ ap (λ gs. onto t.rows (rows_read k gs)) (sym split)
-              ∙ t.whole;
-          count = omega (arith, length_push t.rows r, t.count, ap length split);
+              onto-row u.rows r rest
+              ∙ ap (λ o. onto u.rows (row_and o rest)) (sym (row-read (field_read (number_of q) f.now) r read))
+              ∙ ap (λ gs. onto u.rows (rows_read (number_of q) gs)) (sym m.1)
+              ∙ u.whole;
+          count = omega (arith, length_push u.rows r, u.count, ap length m.1);
         }
 
     -- a field that is none of the kind
-    pub turn-stop : None ≡ field_read k (take (e - 0) (take (length rest - 1) (drop 1 rest))) → rows_read k (fields_after text) ≡ None
-    turn-stop read =
-        let A = take (length rest - 1) (drop 1 rest) in
-        let fs = fields_after (take (length A - e) (drop e A)) in
-        sym t.whole ∙ ap (λ gs. onto t.rows (rows_read k gs)) (fields_split rest e some at) ∙ ap (λ o. onto t.rows (row_and o (rows_read k fs))) (sym read)
+    pub turn-stop : (e : LineError) → Err e ≡ ok_or (field_read (number_of q) f.now) Unreadable → (e ≡ Unreadable) × (line_read t ≡ None)
+    turn-stop e read =
+        let m = yields-more steps (λ f. f.now) left next u.fields f u.yields step in
+        let h = row-refused (field_read (number_of q) f.now) e read in
+        let none : rows_read (number_of q) (row_fields (fields_of t)) ≡ None =
+        sym u.whole ∙ ap (λ gs. onto u.rows (rows_read (number_of q) gs)) m.1 ∙ ap (λ o. onto u.rows (row_and o (rows_read (number_of q) m.0))) h.0 in
+        (h.1, line-is t q u.named ∙ ap (column_with (number_of q)) none)
 
--- what is asked at the end
-pub turn-few : (k : ℕ) (text rest : List ℕ) (b : Rows) → Turn k text rest b → length (fields_after text) ≤ 131072
-    → (vec_len b.cells ≤ 131072) × (vec_len b.words ≡ vec_len b.cells / 64)
-turn-few k text rest b t few =
-    let n : vec_len b.cells ≡ length t.rows = count-is t.rows b (vec_len b.cells) t.gathers refl in
-    (omega (arith, t.count), t.gathers.count ∙ ap (λ m. m / 64) (sym n))
+    -- where memory can lack, there is a row
+    pub turn-some : 0 < rows_in t
+    turn-some = omega (arith, u.count, ap length (yields-more steps (λ f. f.now) left next u.fields f u.yields step).1)
 
--- ---- where memory can lack: there is a row
+  -- at the end
+  module _ (left next : S) (b : Rows) (u : Turn left b) (step : steps left None next) where
+    none-left : u.fields ≡ []
+    none-left = yields-end steps (λ f. f.now) left next u.fields u.yields step
 
-after-some : (rest : List ℕ) → false ≡ eqb (length rest) 0 → 0 < length (fields_after rest)
-after-some [] h = absurd (false≢true h)
-after-some (c ∷ cs) h = rw fields-first (omega arith)
+    pub turn-rows : vec_len b.cells ≡ rows_in t
+    turn-rows = omega (arith, u.count, ap length none-left, count-is u.rows b (vec_len b.cells) u.gathers refl)
 
-pub turn-some : (k : ℕ) (text rest : List ℕ) (b : Rows) → Turn k text rest b → false ≡ eqb (length rest) 0 → 0 < length (fields_after text)
-turn-some k text rest b t h = omega (arith, t.count, after-some rest h)
+    pub turn-words : vec_len b.words ≡ vec_len b.cells / 64
+    turn-words = u.gathers.count ∙ ap (λ m. m / 64) (sym (count-is u.rows b (vec_len b.cells) u.gathers refl))
 
-pub turn-rows : (k : ℕ) (text rest : List ℕ) (b : Rows) → Turn k text rest b → 0 < vec_len b.cells → 0 < length (fields_after text)
-turn-rows k text rest b t h = omega (arith, t.count, count-is t.rows b (vec_len b.cells) t.gathers refl)
+    pub turn-given : rows_in t ≤ 131072 → (l : LineColumn) → ((rs : List Row) → Gathers rs b → held l ≡ offer_of (record { kind = number_of q; rows = rs })) → Given t l
+    turn-given few l column =
+        given-rows t q u.named few l u.rows
+        (sym u.whole ∙ ap (λ gs. onto u.rows (rows_read (number_of q) gs)) none-left ∙ ap Some (append-nil u.rows))
+        (column u.rows u.gathers)

@@ -1,10 +1,10 @@
 -- What reading a line answers.
-use Rattle.std.specs.Prelude.{◌≡◌, ℕ, ◌<◌, ◌≤◌, true, List, length, is_some, Some, None, Ok, Err, Result}
-use Rattle.column.specs.Columns.{Row, Column, Clean, cleaned, offer_of}
+use Rattle.std.specs.Prelude.{◌≡◌, ℕ, ◌<◌, ◌≤◌, true, List, is_some, Some, None, Ok, Err, Result}
+use Rattle.column.specs.Columns.{Column, Clean, cleaned, offer_of}
 use Rattle.lines.specs.declared.columns.LineColumn.{LineColumn}
 use Rattle.lines.specs.declared.columns.LineError.{LineError}
 use Rattle.lines.specs.declared.columns.LineError.TheVariants.{Unreadable, TooManyRows, NoMemory}
-use Rattle.lines.specs.Lines.{fields_of, rows_in, kind_in, rows_read, line_read}
+use Rattle.lines.specs.Lines.{fields_of, rows_in, kind_in, line_read}
 use Rattle.lines.specs.Held.{held}
 
 -- the text is the line of the column that is held
@@ -22,13 +22,6 @@ Reads t (Ok l) = Given t l
 Reads t (Err Unreadable) = (rows_in t ≤ 131072) × (line_read t ≡ None)
 Reads t (Err TooManyRows) = 131072 < rows_in t
 Reads t (Err NoMemory) = (0 < rows_in t) × (rows_in t ≤ 131072) × (is_some (kind_in (fields_of t)) ≡ true)
-
--- the same for the fields of the rows
-abbrev pub RowsGiven : ℕ → List (List ℕ) → Result LineColumn LineError → Type 0
-RowsGiven k fs (Ok l) = (rs : List Row) × (rows_read k fs ≡ Some rs) × (held l ≡ offer_of (record { kind = k; rows = rs }))
-RowsGiven k fs (Err Unreadable) = rows_read k fs ≡ None
-RowsGiven k fs (Err TooManyRows) = ⊥
-RowsGiven k fs (Err NoMemory) = 0 < length fs
 
 -- a column's own line gives that column again, unless there is no memory
 abbrev pub Back : Column → Result LineColumn LineError → Type 0

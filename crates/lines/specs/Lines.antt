@@ -1,6 +1,8 @@
 -- A column as a line of text: the name of its kind, then for each row a comma and a field. A field is empty for a blank, else
 -- digits with or without a minus in front.
-use Rattle.std.specs.Prelude.{ℕ, suc, ◌+◌, ◌-◌, ◌*◌, ◌%◌, ◌^◌, Bool, true, false, cond, ◌&&◌, List, [], ◌∷◌, ◌++◌, length, Some, None, decimal, Option, ◌==◌, nat_le, nat_lt}
+use Rattle.std.specs.Prelude.{ℕ, ◌+◌, ◌-◌, ◌*◌, ◌%◌, ◌^◌, Bool, true, false, cond, ◌&&◌, List, [], ◌∷◌, ◌++◌, length, Some, None, decimal, Option, ◌==◌, nat_le, nat_lt}
+use Rattle.std.specs.Bool.{then_some}
+use Rattle.std.specs.List.{slice_split, find}
 use Rattle.std.specs.Str.{bytes_eq}
 use Rattle.column.specs.declared.kinds.Kind.{Kind}
 use Rattle.column.specs.declared.kinds.Kind.TheVariants.{U8, U16, U32, U64, I8, I16, I32, I64}
@@ -15,26 +17,9 @@ minus = 45
 
 -- ---- the fields of a text
 
--- a character before the fields: a comma begins a new one
-abbrev pub fields_by : Bool → ℕ → List (List ℕ) → List (List ℕ)
-fields_by true c fs = [] ∷ fs
-fields_by false c [] = (c ∷ []) ∷ []
-fields_by false c (f ∷ fs) = (c ∷ f) ∷ fs
-
 -- what stands between the commas: one field more than there are commas
 abbrev pub fields_of : List ℕ → List (List ℕ)
-fields_of [] = [] ∷ []
-fields_of (c ∷ cs) = fields_by (c == comma) c (fields_of cs)
-
--- the fields that follow one: none at the end, else those after the comma
-abbrev pub fields_after : List ℕ → List (List ℕ)
-fields_after [] = []
-fields_after (c ∷ cs) = fields_of cs
-
--- characters before the first comma
-abbrev pub before_comma : List ℕ → ℕ
-before_comma [] = 0
-before_comma (c ∷ cs) = cond (c == comma) 0 (suc (before_comma cs))
+fields_of t = slice_split (λ c. c == comma) t
 
 -- the fields but the first: one a row
 abbrev pub row_fields : List (List ℕ) → List (List ℕ)
@@ -49,19 +34,11 @@ rows_in t = length (row_fields (fields_of t))
 abbrev pub kinds : List Kind
 kinds = U8 ∷ (U16 ∷ (U32 ∷ (U64 ∷ (I8 ∷ (I16 ∷ (I32 ∷ (I64 ∷ [])))))))
 
-abbrev pub kind_among : List ℕ → List Kind → Option Kind
-kind_among t [] = None
-kind_among t (k ∷ ks) = cond (bytes_eq t (name_of k)) (Some k) (kind_among t ks)
-
 -- the kind with this name, if there is one
 abbrev pub kind_named : List ℕ → Option Kind
-kind_named t = kind_among t kinds
+kind_named t = find (λ k. bytes_eq t (name_of k)) kinds
 
 -- ---- a row
-
-abbrev pub kept_if : Bool → ℕ → Option ℕ
-kept_if true n = Some n
-kept_if false n = None
 
 abbrev pub is_digit : ℕ → Bool
 is_digit c = nat_le 48 c && nat_le c 57
@@ -79,7 +56,7 @@ number_of_digits (c ∷ cs) = number_after 0 (c ∷ cs)
 -- a number that is a word
 abbrev pub word_sized : Option ℕ → Option ℕ
 word_sized None = None
-word_sized (Some n) = kept_if (nat_lt n (2 ^ 64)) n
+word_sized (Some n) = then_some (nat_lt n (2 ^ 64)) n
 
 -- the word of −n
 abbrev pub negated : ℕ → ℕ
@@ -97,15 +74,20 @@ word_of false n = n
 -- the word of n, or under a minus of −n, where the kind has that number. The number is asked and not the word: −5 is no u64
 abbrev pub cell_read : ℕ → Bool → Option ℕ → Option ℕ
 cell_read k m None = None
-cell_read k m (Some n) = kept_if (nat_le n (furthest k m)) (word_of m n)
+cell_read k m (Some n) = then_some (nat_le n (furthest k m)) (word_of m n)
 
 abbrev pub value_row : Option ℕ → Option Row
 value_row None = None
 value_row (Some w) = Some (Some w)
 
+-- the cell that digits write, with or without a minus in front
+abbrev pub cell_written : ℕ → List ℕ → Option ℕ
+cell_written k [] = None
+cell_written k (c ∷ cs) = cond (c == minus) (cell_read k true (number_of_digits cs)) (cell_read k false (number_of_digits (c ∷ cs)))
+
 abbrev pub field_read : ℕ → List ℕ → Option Row
 field_read k [] = Some None
-field_read k (c ∷ cs) = value_row (cond (c == minus) (cell_read k true (number_of_digits cs)) (cell_read k false (number_of_digits (c ∷ cs))))
+field_read k (c ∷ cs) = value_row (cell_written k (c ∷ cs))
 
 -- ---- the line
 

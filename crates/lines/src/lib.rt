@@ -3,5 +3,6 @@
 
 pub mod columns;
 mod fields;
+pub mod numbers;
 pub mod reads;
 mod rows;

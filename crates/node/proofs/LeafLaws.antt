@@ -1,8 +1,8 @@
 -- Plain, constant and blank nodes: their rows come back, and how long they are.
-use Rattle.std.proofs.Common.{◌≡◌, ℕ, zero, suc, ◌+◌, ◌*◌, ◌^◌, ◌<◌, ◌≤◌, Bool, true, false, ◌&&◌, leb, List, [], ◌∷◌, ◌++◌, length, get_or, take, drop, replicate, Some, None, sym, refl, ap, ◌∙◌, subst, inl, inr, append-nil, zero-lt-suc, arith, length-append}
+use Rattle.std.proofs.Common.{◌≡◌, ℕ, zero, suc, ◌+◌, ◌*◌, ◌^◌, ◌<◌, ◌≤◌, Bool, true, List, [], ◌∷◌, ◌++◌, length, get_or, take, drop, replicate, Some, None, sym, refl, ap, ◌∙◌, subst, inl, inr, append-nil, zero-lt-suc, arith, length-append}
 use Rattle.std.specs.List.{AllByRecursion}
 use Rattle.std.proofs.lemmas.List.{drop_all}
-use Rattle.std.proofs.lemmas.Bool.{and_from, and_parts, le-leb, leb-true, true≢false}
+use Rattle.std.proofs.lemmas.Bool.{and_from, le-leb}
 use Rattle.packing.specs.Packing.{joined, digits, packed_len, Below, written}
 use Rattle.packing.proofs.Below.{below-append}
 use Rattle.packing.proofs.Packed.{packed-small}
@@ -13,7 +13,7 @@ use Rattle.column.proofs.RowLaws.{length-cells}
 use Rattle.node.specs.declared.heads.Head.{Head}
 use Rattle.node.specs.Payloads.{flag_of, mask, unmask, words_of, at_width, plain_payload, plain_len, plain_rows, first_of, constant_payload, constant_len, constant_from, constant_rows, blanks}
 use Rattle.node.specs.Nodes.{Node, leaf, head_of, payload_of, plain_node, constant_node, blank_node, OneValue, Bare, Fit}
-use Rattle.node.specs.Reading.{held_rows, rows_read, leaf_read, leaf_fits, readable, Filled, LeafBack}
+use Rattle.node.specs.Reading.{held_rows, rows_read, leaf_read, readable, Filled, LeafBack}
 use Rattle.node.proofs.MaskLaws.{mask-back, length-mask, below-mask, mask-small, flag_small, length-words, word-bits}
 use Rattle.node.proofs.WidthLaws.{InKind, width-most, width_back, after-width, length-at_width, below-at_width, clean-kind, clean-short, clean-values, clean-cells}
 
@@ -164,11 +164,6 @@ no_words (suc w) = let e = no_words w in omega arith
 pub blank-held : (n w : ℕ) (cs ws : List ℕ) → length cs ≡ n → ws ≡ replicate w 0 → held_rows cs ws ≡ blanks n
 blank-held n w cs ws c e = (λ i. rows_of (digits 2 (c i) ((ap (joined (2 ^ 64)) e ∙ no_words w) i)) cs) ∙ blank-rows n cs
 
-pub other-rows : (x k n f : ℕ) (p : List ℕ) → (x ≡ 0 → ⊥) → (x ≡ 1 → ⊥) → rows_read x k n f p ≡ blanks n
-other-rows zero k n f p a b = absurd (a refl)
-other-rows (suc zero) k n f p a b = absurd (b refl)
-other-rows (suc (suc x)) k n f p a b = refl
-
 -- ---- when a head can be read
 
 pub bare-head : (c : Column) (n : Node) → Clean c → Bare c n → ((head_of n).form ≤ 2) × ((head_of n).kind ≡ c.kind) × ((head_of n).rows ≡ length c.rows)
@@ -180,32 +175,7 @@ pub readable-when : (h : Head) (c w : ℕ) → h.form ≤ 2 → h.kind ≤ 7 →
 readable-when h c w a b d e f =
     and_from _ _ (le-leb h.kind 7 b) (and_from _ _ (le-leb h.form 2 a) (and_from _ _ (le-leb h.rows 131072 d) (and_from _ _ (le-leb h.rows c e) (le-leb (words_for h.rows) w f))))
 
-pub record Fitting (h : Head) (c w : ℕ) : Type 0 where
-  pub form : h.form ≤ 2
-  pub few : h.rows ≤ 131072
-  pub cells : h.rows ≤ c
-  pub words : words_for h.rows ≤ w
-
-pub fitting : (h : Head) (c w : ℕ) → leaf_fits h c w ≡ true → Fitting h c w
-fitting h c w e =
-    let a = and_parts (leb h.form 2) (leb h.rows 131072 && (leb h.rows c && leb (words_for h.rows) w)) e in
-    let b = and_parts (leb h.rows 131072) (leb h.rows c && leb (words_for h.rows) w) a.1 in
-    let d = and_parts (leb h.rows c) (leb (words_for h.rows) w) b.1 in
-    record { form = leb-true h.form 2 a.0; few = leb-true h.rows 131072 b.0; cells = leb-true h.rows c d.0; words = leb-true (words_for h.rows) w d.1 }
-
-pub bare-readable : (c : Column) (n : Node) (cs ws : ℕ) → Clean c → Bare c n → length c.rows ≤ cs → words_for (length c.rows) ≤ ws → readable (head_of n) cs ws ≡ true
-bare-readable c n cs ws h b x y =
-    let t = bare-head c n h b in
-    let r = t.2 in
-    let k = t.1 in
-    let k7 = clean-kind c h in
-    let short = clean-short c h in
-    readable-when (head_of n) cs ws t.0 (omega arith) (omega arith) (omega arith) (subst (λ m. words_for m ≤ ws) (sym r) y)
-
 -- ---- the places after a read
-
-pub refused-back : (h : Head) (p cells words : List ℕ) → readable h (length cells) (length words) ≡ false → LeafBack h p false cells words cells words
-refused-back h p cells words e c cl b x y = absurd (true≢false (sym (bare-readable c (leaf h p) (length cells) (length words) cl b x y) ∙ e))
 
 front : (n : ℕ) (new old : List ℕ) → length new ≡ n → take n (written new old) ≡ new
 front n new old l = ap (λ m. take m (written new old)) (sym l) ∙ take-written new old

@@ -1,3 +1,4 @@
+mod FormLaws
 pub mod HeaderLaws
 pub mod LeafLaws
 pub mod MaskLaws

@@ -1,5 +1,6 @@
 -- Masks: their length, their bytes as presence words give them, and the bits back.
 use Rattle.std.proofs.Common.{◌≡◌, ℕ, zero, suc, ◌+◌, ◌/◌, ◌^◌, ◌<◌, ◌≤◌, Bool, true, false, List, [], ◌∷◌, length, Some, None, sym, refl, ap, ◌∙◌, subst, zero-le, le_trans, le_of_eq, le_refl, lt_of_lt_of_le, zero-lt-suc, arith, pow_mono}
+use mir.Val.{bool_byte}
 use Rattle.std.proofs.lemmas.List.{length-map}
 use Rattle.std.proofs.lemmas.Bool.{true≢false}
 use Rattle.packing.specs.Packing.{joined, digits, packed_len, packed, unpacked, Below}
@@ -42,6 +43,11 @@ flag_small rs = go (has_blank rs)
     go : (q : Bool) → flag_by q < 256
     go true = omega arith
     go false = omega arith
+
+-- a flag as a byte
+pub flag_is : (q : Bool) → bool_byte q ≡ flag_by q
+flag_is true = refl
+flag_is false = refl
 
 ones-bits : (rs : List Row) → has_blank rs ≡ false → ones (length rs) ≡ bits rs
 ones-bits [] e = refl

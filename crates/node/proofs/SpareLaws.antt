@@ -1,11 +1,11 @@
 -- Presence words from a mask: the low bits of what was loaded, spare bits cleared.
-use Rattle.std.proofs.Common.{◌≡◌, ℕ, zero, suc, ◌+◌, ◌-◌, ◌*◌, ◌/◌, ◌%◌, ◌^◌, ◌<◌, ◌≤◌, List, [], ◌∷◌, ◌++◌, length, get_or, drop, set, replicate, sym, refl, ap, ◌∙◌, lt_of_lt_of_le, mod-lt, mod-eq_of_lt, zero-lt-suc, add-mul, pow-suc, div-add-mod', arith, pow_pos, pow_mono, pow-add}
+use Rattle.std.proofs.Common.{◌≡◌, ℕ, zero, suc, ◌+◌, ◌-◌, ◌*◌, ◌/◌, ◌%◌, ◌^◌, ◌≤◌, List, [], ◌∷◌, ◌++◌, get_or, set, replicate, sym, refl, ap, ◌∙◌, lt_of_lt_of_le, mod-lt, mod-eq_of_lt, zero-lt-suc, add-mul, pow-suc, div-add-mod', arith, pow_pos, pow_mono, pow-add}
 use native.Mathlib.Nat.{mod-mod, pow-zero}
 use lib.ListN.{length-replicate}
 use lib.Pow.{mod-mod-pow}
 use Rattle.std.proofs.lemmas.Nat.{field_of, mod-mul-add}
-use Rattle.std.proofs.lemmas.List.{get_or_append_left, get_or_at, set-append_left, set_at}
-use Rattle.packing.specs.Packing.{joined, digits, Below, written}
+use Rattle.std.proofs.lemmas.List.{get_or_at, set_at}
+use Rattle.packing.specs.Packing.{joined, digits, Below}
 use Rattle.packing.proofs.Digits.{length_digits, digits-joined, joined-digits-mod, digits-high, digits-++}
 use Rattle.packing.proofs.Packed.{pow-mul}
 use Rattle.column.specs.Columns.{words_for}
@@ -43,48 +43,38 @@ spare-cleared l r X h =
 
 -- ---- what was loaded: words whose low n bits are the presence bits
 
-pub record Loaded (f n : ℕ) (bs old ws : List ℕ) : Type 0 where
+pub record Loaded (f n : ℕ) (bs ws : List ℕ) : Type 0 where
   pub number : ℕ
-  pub is : ws ≡ written (digits (2 ^ 64) (words_for n) number) old
+  pub is : ws ≡ digits (2 ^ 64) (words_for n) number
   pub low : number % 2 ^ n ≡ joined 2 (unmask f n bs)
 
-pub part-cleared : (f n : ℕ) (bs old ws : List ℕ) → Loaded f n bs old ws → (n % 64 ≡ 0 → ⊥)
-    → (x : ℕ) → x ≡ get_or ws (n / 64) 0 % 2 ^ (n % 64) → set ws (n / 64) x ≡ written (words_of n (unmask f n bs)) old
-part-cleared f n bs old ws d h x e =
+pub part-cleared : (f n : ℕ) (bs ws : List ℕ) → Loaded f n bs ws → (n % 64 ≡ 0 → ⊥)
+    → (x : ℕ) → x ≡ get_or ws (n / 64) 0 % 2 ^ (n % 64) → set ws (n / 64) x ≡ words_of n (unmask f n bs)
+part-cleared f n bs ws d h x e =
     let l = n / 64 in
     let r = n % 64 in
     let X = d.number in
     let w : words_for n ≡ l + 1 = omega arith in
-    let new = digits (2 ^ 64) (words_for n) X in
-    let rest = drop (length new) old in
-    let len = length_digits (2 ^ 64) (words_for n) X in
-    let within : l < length new = omega arith in
     let bit : r + 64 * l ≡ n = omega arith in
-    let cleared : set new l (get_or new l 0 % 2 ^ r) ≡ words_of n (unmask f n bs) =
-    ap (λ m. set (digits (2 ^ 64) m X) l (get_or (digits (2 ^ 64) m X) l 0 % 2 ^ r)) w
-    ∙ spare-cleared l r X (omega arith)
-    ∙ (λ i. digits (2 ^ 64) (sym w i) ((ap (λ m. X % 2 ^ m) bit ∙ d.low) i)) in
-    let same : length new ≡ length (words_of n (unmask f n bs)) = len ∙ sym (length_digits (2 ^ 64) (words_for n) (joined 2 (unmask f n bs))) in
     ap (set ws l) e
-    ∙ ap (λ xs. set xs l (get_or xs l 0 % 2 ^ r)) d.is
-    ∙ ap (λ m. set (new ++ rest) l (m % 2 ^ r)) (get_or_append_left new rest 0 l within)
-    ∙ set-append_left new rest l (get_or new l 0 % 2 ^ r) within
-    ∙ (λ i. cleared i ++ drop (same i) old)
+    ∙ ap (λ xs. set xs l (get_or xs l 0 % 2 ^ r)) (d.is ∙ ap (λ m. digits (2 ^ 64) m X) w)
+    ∙ spare-cleared l r X (omega arith)
+    ∙ (λ i. digits (2 ^ 64) (sym w i) ((ap (λ m. X % 2 ^ m) bit ∙ d.low) i))
 
-pub whole-loaded : (f n : ℕ) (bs old ws : List ℕ) → Loaded f n bs old ws → n % 64 ≡ 0 → ws ≡ written (words_of n (unmask f n bs)) old
-whole-loaded f n bs old ws d h =
+pub whole-loaded : (f n : ℕ) (bs ws : List ℕ) → Loaded f n bs ws → n % 64 ≡ 0 → ws ≡ words_of n (unmask f n bs)
+whole-loaded f n bs ws d h =
     let l = words_for n in
     let n64 : n ≡ 64 * l = omega arith in
     let X = d.number in
     let q : X % 2 ^ (64 * l) ≡ joined 2 (unmask f n bs) = ap (λ m. X % 2 ^ m) (sym n64) ∙ d.low in
     let e : X % 2 ^ (64 * l) ≡ joined 2 (unmask f n bs) % 2 ^ (64 * l) = sym (mod-mod X (2 ^ (64 * l))) ∙ ap (λ y. y % 2 ^ (64 * l)) q in
-    d.is ∙ ap (λ ds. written ds old) (low-words l X (joined 2 (unmask f n bs)) e)
+    d.is ∙ low-words l X (joined 2 (unmask f n bs)) e
 
 -- ---- with a mask
 
-pub mask-loaded : (f n : ℕ) (bs old ws : List ℕ) → ws ≡ written (digits (2 ^ 64) (words_for n) (joined 256 bs)) old → (f ≡ 0 → ⊥) → Loaded f n bs old ws
-mask-loaded zero n bs old ws e h = absurd (h refl)
-mask-loaded (suc f) n bs old ws e h = record { number = joined 256 bs; is = e; low = sym (joined-digits-mod 2 n (joined 256 bs) (zero-lt-suc 1)) }
+pub mask-loaded : (f n : ℕ) (bs ws : List ℕ) → ws ≡ digits (2 ^ 64) (words_for n) (joined 256 bs) → (f ≡ 0 → ⊥) → Loaded f n bs ws
+mask-loaded zero n bs ws e h = absurd (h refl)
+mask-loaded (suc f) n bs ws e h = record { number = joined 256 bs; is = e; low = sym (joined-digits-mod 2 n (joined 256 bs) (zero-lt-suc 1)) }
 
 -- ---- without one
 
@@ -118,13 +108,13 @@ ones_low x n m h e =
     let s : x ≡ (a - 1) * b + (b - 1) = omega arith in
     ap (λ z. z % b) s ∙ mod-mul-add (a - 1) b (b - 1) (omega arith)
 
-pub ones-loaded : (f n : ℕ) (bs old ws : List ℕ) → ws ≡ written (replicate (words_for n) (2 ^ 64 - 1)) old → f ≡ 0 → Loaded f n bs old ws
-ones-loaded (suc f) n bs old ws e h = absurd (omega arith)
-ones-loaded zero n bs old ws e h =
+pub ones-loaded : (f n : ℕ) (bs ws : List ℕ) → ws ≡ replicate (words_for n) (2 ^ 64 - 1) → f ≡ 0 → Loaded f n bs ws
+ones-loaded (suc f) n bs ws e h = absurd (omega arith)
+ones-loaded zero n bs ws e h =
     let w = words_for n in
     let R = replicate w (2 ^ 64 - 1) in
     let X = joined (2 ^ 64) R in
     let back : digits (2 ^ 64) w X ≡ R = ap (λ m. digits (2 ^ 64) m X) (sym (length-replicate w (2 ^ 64 - 1))) ∙ digits-joined (2 ^ 64) R (below-replicate w) in
     let o = ones-joined n in
     let low : X % 2 ^ n ≡ 2 ^ n - 1 = ones_low X n (64 * w) (omega arith) (all_ones w ∙ sym (pow-mul 2 64 w)) in
-    record { number = X; is = e ∙ ap (λ ds. written ds old) (sym back); low = low ∙ omega arith }
+    record { number = X; is = e ∙ sym back; low = low ∙ omega arith }

@@ -1,3 +1,4 @@
 pub mod Payloads
 pub mod Nodes
 pub mod Reading
+pub mod Forms

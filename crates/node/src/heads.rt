@@ -1,13 +1,14 @@
 // A node's head.
-ghost use Rattle.std.specs.Prelude.{◌≡◌, ℕ, ◌≤◌, max, List, ◌++◌, length, Some};
+ghost use Rattle.std.specs.Prelude.{◌≡◌, ℕ, ◌+◌, ◌≤◌, max, List, ◌++◌, length, Some};
 ghost use Rattle.node.specs.Nodes.{Node, head_size, head_bytes, flat, Fit};
-ghost use Rattle.node.specs.Reading.{header_at, header_read, header_of};
-ghost use Rattle.packing.specs.Packing.{digits, written};
+ghost use Rattle.node.specs.Reading.{number4, header_at, header_read, header_of};
+ghost use Rattle.packing.specs.Packing.{written};
 
-use packing::get_u32;
+use packing::{get, put};
 
 pub const HEAD_SIZE: usize = 16;
 
+// The bytes as they are stored: a reader meets any, and only then asks which form and kind they name.
 #[derive(Clone, Copy)]
 pub struct Head {
     pub form: u8,
@@ -23,41 +24,11 @@ impl Head {
         requires room { head_size ≤ length out.old }
         ensures { out.new ≡ written (head_bytes self.now payload whole) out.old }
     {
-        out[0..HEAD_SIZE].copy_from_slice(&self.to_bytes(payload, whole));
+        out[..4].copy_from_slice(&[self.form, self.kind, self.cell_bits, self.flag]);
+        put(out, 4, 4, u64::from(self.rows));
+        put(out, 8, 4, u64::from(payload));
+        put(out, 12, 4, u64::from(whole));
     }
-
-    fn to_bytes(&self, payload: u32, whole: u32) -> [u8; HEAD_SIZE]
-        ensures { result ≡ head_bytes self.now payload whole }
-    {
-        let rows = low_first(self.rows);
-        let payload = low_first(payload);
-        let whole = low_first(whole);
-        [
-            self.form,
-            self.kind,
-            self.cell_bits,
-            self.flag,
-            rows[0],
-            rows[1],
-            rows[2],
-            rows[3],
-            payload[0],
-            payload[1],
-            payload[2],
-            payload[3],
-            whole[0],
-            whole[1],
-            whole[2],
-            whole[3],
-        ]
-    }
-}
-
-// A number's bytes, the lowest first.
-fn low_first(v: u32) -> [u8; 4]
-    ensures { result ≡ digits 256 4 v }
-{
-    v.to_le_bytes()
 }
 
 // A head with the lengths that stand beside it.
@@ -89,12 +60,12 @@ impl Header {
             kind: bytes[1],
             cell_bits: bytes[2],
             flag: bytes[3],
-            rows: get_u32(bytes, 4),
+            rows: number4(bytes, 4),
         };
         Header {
             head,
-            payload: get_u32(bytes, 8),
-            whole: get_u32(bytes, 12),
+            payload: number4(bytes, 8),
+            whole: number4(bytes, 12),
         }
     }
 
@@ -104,4 +75,12 @@ impl Header {
     {
         HEAD_SIZE.max(self.whole as usize)
     }
+}
+
+// The number in the 4 bytes from `at` on.
+fn number4(bytes: &[u8], at: usize) -> u32
+    requires within { at + 4 ≤ length bytes.now }
+    ensures { result ≡ number4 at bytes.now }
+{
+    get(bytes, at, 4) as u32
 }

@@ -1,16 +1,17 @@
 // The rows of nodes without a scheme, read back; total on any bytes.
-ghost use Rattle.std.specs.Prelude.{◌≡◌, ◌-◌, ◌%◌, ◌^◌, ◌<◌, ◌≤◌, true, length};
+ghost use Rattle.std.specs.Prelude.{◌≡◌, ◌-◌, ◌^◌, ◌≤◌, true, length, is_some};
 ghost use Rattle.column.specs.Columns.{words_for};
 ghost use Rattle.column.specs.Kinds.{number_of, width, signed};
 ghost use Rattle.node.specs.Payloads.{unmask, words_of, widen, from_width, plain_rows, constant_rows};
-ghost use Rattle.node.specs.Reading.{held_rows, rows_read, leaf_fits, readable, LeafIn, LeafBack};
+ghost use Rattle.node.specs.Reading.{held_rows, rows_read, readable, LeafIn, LeafBack};
+ghost use Rattle.node.specs.Forms.{number_of_form, form_of};
 ghost use Rattle.packing.specs.Packing.{Below, written};
 
 use crate::heads::Head;
 use crate::slices::from;
 use column::kinds::Kind;
 use column::views::MAX_ROWS;
-use packing::{packed_len, unpack};
+use packing::{low_bits, packed_len, unpack};
 
 // Presence words from a mask, all rows present without one, to the front of `words`; spare bits 0.
 pub fn read_mask(flag: u8, bytes: &[u8], rows: usize, words: &mut [u64])
@@ -18,23 +19,16 @@ pub fn read_mask(flag: u8, bytes: &[u8], rows: usize, words: &mut [u64])
     requires room { words_for rows ≤ length words.old }
     ensures { words.new ≡ written (words_of rows (unmask flag rows bytes.now)) words.old }
 {
-    let count = (rows + 63) / 64;
+    let words = &mut words[..rows.div_ceil(64)];
     if flag == 0 {
-        words[0..count].fill(u64::MAX);
+        words.fill(u64::MAX);
     } else {
-        unpack(bytes, 64, &mut words[0..count]);
+        unpack(bytes, 64, words);
     }
     let rest = rows % 64;
     if rest != 0 {
-        words[rows / 64] = low_bits(words[rows / 64], rest);
+        words[rows / 64] = low_bits(words[rows / 64] as u128, rest as u32);
     }
-}
-
-fn low_bits(word: u64, bits: usize) -> u64
-    requires few { bits < 64 }
-    ensures { result ≡ word % 2 ^ bits }
-{
-    word % (1 << bits)
 }
 
 // Fills `cells` with cells at the kind's width, 0 where the bytes end.
@@ -70,69 +64,99 @@ fn sign_gap(kind: Kind) -> u64
     kind.least() - kind.greatest() - 1
 }
 
-fn read_plain(kind: Kind, flag: u8, payload: &[u8], cells: &mut [u64], words: &mut [u64])
-    requires few { length cells.old ≤ 131072 }
-    requires words { length words.old ≡ words_for (length cells.old) }
-    ensures { held_rows cells.new words.new ≡ plain_rows (number_of kind) (length cells.old) flag payload.now }
-{
-    read_at_width(kind, payload, cells);
-    let len = packed_len(kind.width(), cells.len());
-    read_mask(flag, from(payload, len), cells.len(), words);
+// A form without a scheme.
+#[derive(Clone, Copy)]
+enum Form {
+    Plain,
+    Constant,
+    Blank,
 }
 
-fn read_constant(kind: Kind, flag: u8, payload: &[u8], cells: &mut [u64], words: &mut [u64])
-    requires few { length cells.old ≤ 131072 }
-    requires words { length words.old ≡ words_for (length cells.old) }
-    ensures { held_rows cells.new words.new ≡ constant_rows (number_of kind) (length cells.old) flag payload.now }
-{
-    let mut value = [0; 1];
-    read_at_width(kind, payload, &mut value);
-    cells.fill(value[0]);
-    let len = packed_len(kind.width(), 1);
-    read_mask(flag, from(payload, len), cells.len(), words);
+// The form's number is that of a scheme.
+#[derive(Clone, Copy)]
+struct HasScheme;
+
+impl TryFrom<u8> for Form {
+    type Error = HasScheme;
+
+    ghost try_from_gives = { λ number r. r ≡ form_of number };
+
+    fn try_from(number: u8) -> Result<Form, HasScheme> {
+        match number {
+            0 => Ok(Form::Plain),
+            1 => Ok(Form::Constant),
+            2 => Ok(Form::Blank),
+            _ => Err(HasScheme),
+        }
+    }
 }
 
-fn read_rows(form: u8, kind: Kind, flag: u8, payload: &[u8], cells: &mut [u64], words: &mut [u64])
-    requires few { length cells.old ≤ 131072 }
-    requires words { length words.old ≡ words_for (length cells.old) }
-    ensures { held_rows cells.new words.new ≡ rows_read form (number_of kind) (length cells.old) flag payload.now }
-{
-    match form {
-        0 => read_plain(kind, flag, payload, cells, words),
-        1 => read_constant(kind, flag, payload, cells, words),
-        _ => words.fill(0),
+// What a leaf's rows are read from.
+#[derive(Clone, Copy)]
+struct Leaf<'a> {
+    form: Form,
+    kind: Kind,
+    flag: u8,
+    payload: &'a [u8],
+}
+
+// The places stay two slices: of a struct of two `&mut`, a clause names what was written by position alone.
+impl Leaf<'_> {
+    fn read(self, cells: &mut [u64], words: &mut [u64])
+        requires few { length cells.old ≤ 131072 }
+        requires words { length words.old ≡ words_for (length cells.old) }
+        ensures { held_rows cells.new words.new ≡ rows_read (number_of_form self.entry.form) (number_of self.entry.kind) (length cells.old) self.entry.flag self.entry.payload.now }
+    {
+        match self.form {
+            Form::Plain => self.read_plain(cells, words),
+            Form::Constant => self.read_constant(cells, words),
+            Form::Blank => words.fill(0),
+        }
+    }
+
+    fn read_plain(self, cells: &mut [u64], words: &mut [u64])
+        requires few { length cells.old ≤ 131072 }
+        requires words { length words.old ≡ words_for (length cells.old) }
+        ensures { held_rows cells.new words.new ≡ plain_rows (number_of self.entry.kind) (length cells.old) self.entry.flag self.entry.payload.now }
+    {
+        read_at_width(self.kind, self.payload, cells);
+        let len = packed_len(self.kind.width(), cells.len());
+        read_mask(self.flag, from(self.payload, len), cells.len(), words);
+    }
+
+    fn read_constant(self, cells: &mut [u64], words: &mut [u64])
+        requires few { length cells.old ≤ 131072 }
+        requires words { length words.old ≡ words_for (length cells.old) }
+        ensures { held_rows cells.new words.new ≡ constant_rows (number_of self.entry.kind) (length cells.old) self.entry.flag self.entry.payload.now }
+    {
+        let mut value = [0; 1];
+        read_at_width(self.kind, self.payload, &mut value);
+        cells.fill(value[0]);
+        let len = packed_len(self.kind.width(), 1);
+        read_mask(self.flag, from(self.payload, len), cells.len(), words);
     }
 }
 
 // Reads a plain, constant or blank node's rows to the fronts of `cells` and `words`, if there is room and the head makes sense.
-pub fn read_leaf(head: &Head, payload: &[u8], cells: &mut [u64], words: &mut [u64]) -> bool
-    ensures answer { result ≡ readable head.now (length cells.old) (length words.old) }
-    ensures places { LeafIn result head.now payload.now cells.old words.old cells.new words.new }
-    ensures back { LeafBack head.now payload.now result cells.old words.old cells.new words.new }
+pub fn read_leaf(head: &Head, payload: &[u8], cells: &mut [u64], words: &mut [u64]) -> Option<()>
+    ensures answer { is_some result ≡ readable head.now (length cells.old) (length words.old) }
+    ensures places { LeafIn (is_some result) head.now payload.now cells.old words.old cells.new words.new }
+    ensures back { LeafBack head.now payload.now (is_some result) cells.old words.old cells.new words.new }
 {
-    let Some(kind) = Kind::from_number(head.kind) else {
-        return false;
-    };
-    if !fits(head, cells.len(), words.len()) {
-        return false;
+    let kind = Kind::try_from(head.kind).ok()?;
+    let form = Form::try_from(head.form).ok()?;
+    let rows = head.rows as usize;
+    if rows > MAX_ROWS {
+        return None;
     }
-    let rows = head.rows as usize;
-    let count = (rows + 63) / 64;
-    read_rows(
-        head.form,
+    let (cells, _) = cells.split_at_mut_checked(rows)?;
+    let (words, _) = words.split_at_mut_checked(rows.div_ceil(64))?;
+    let leaf = Leaf {
+        form,
         kind,
-        head.flag,
+        flag: head.flag,
         payload,
-        &mut cells[0..rows],
-        &mut words[0..count],
-    );
-    true
-}
-
-// A form without a scheme, not too many rows, and places enough for them.
-fn fits(head: &Head, cells: usize, words: usize) -> bool
-    ensures { result ≡ leaf_fits head.now cells words }
-{
-    let rows = head.rows as usize;
-    head.form <= 2 && rows <= MAX_ROWS && rows <= cells && (rows + 63) / 64 <= words
+    };
+    leaf.read(cells, words);
+    Some(())
 }

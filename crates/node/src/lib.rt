@@ -2,8 +2,9 @@
 #![tactic(auto)]
 
 pub mod bodies;
+pub mod extent;
 pub mod heads;
 pub mod leaves;
 pub mod payloads;
-mod slices;
+pub mod slices;
 pub mod weights;

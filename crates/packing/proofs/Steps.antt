@@ -1,20 +1,11 @@
 -- Steps of the loops that write digits.
-use Rattle.std.proofs.Common.{◌≡◌, ℕ, suc, ◌+◌, ◌-◌, ◌*◌, ◌/◌, ◌%◌, ◌^◌, ◌<◌, ◌≤◌, List, [], ◌∷◌, ◌++◌, length, get_or, drop, set, sym, refl, ap, ◌∙◌, mod-eq_of_lt, mul_assoc, mul_comm, add-mul, arith, lit<, lit≤, pow-add}
+use Rattle.std.proofs.Common.{◌≡◌, ℕ, ◌+◌, ◌-◌, ◌*◌, ◌/◌, ◌%◌, ◌^◌, ◌<◌, ◌≤◌, List, ◌++◌, length, get_or, drop, sym, refl, ap, ◌∙◌, mod-eq_of_lt, mul_assoc, mul_comm, add-mul, arith, lit<, lit≤, pow-add}
 use native.Mathlib.Nat.{div-eq_of_lt}
 use lib.Arith.{digits_lt}
 use Rattle.std.proofs.lemmas.List.{drop_more}
 use Rattle.packing.specs.Packing.{joined, digits, written_at}
 use Rattle.packing.proofs.Digits.{length_digits, digits-high, digits-out}
-use Rattle.packing.proofs.Written.{written_at-one, written_at-++}
-
--- one digit at place i, of those up to place e
-pub digit-put : (b i e x : ℕ) (out goal : List ℕ) → i < e → i < length out → written_at i (digits b (e - i) x) out ≡ goal
-    → written_at (i + 1) (digits b (e - (i + 1)) (x / b)) (set out i (x % b)) ≡ goal
-digit-put b i e x out goal l h w =
-    let s : e - i ≡ suc (e - (i + 1)) = omega arith in
-    let o = written_at-one i (x % b) out h in
-    let m = written_at-++ i (x % b ∷ []) (digits b (e - (i + 1)) (x / b)) out (omega arith) in
-    rw o at (sym m) ∙ rw s at w
+use Rattle.packing.proofs.Written.{written_at-++}
 
 -- the m digits of s bits that stand lowest, at place i
 pub digits-put : (b m s i e fill hi acc : ℕ) (out goal : List ℕ) → b ^ m ≡ 2 ^ s → 0 < b → s ≤ fill → i + m ≤ e → i ≤ length out

@@ -1,16 +1,16 @@
 -- The two halves of a scheme together.
-use Rattle.std.proofs.Common.{◌≡◌, ℕ, zero, suc, ◌+◌, ◌-◌, ◌*◌, ◌/◌, ◌<◌, ◌≤◌, Bool, true, false, ltb, List, [], ◌∷◌, map, length, take, drop, Ok, Err, Result, sym, refl, ap, ◌∙◌, subst, ap₂, le_refl, arith, lit<}
-use Rattle.std.proofs.lemmas.List.{take-append-le, take_all, length-take, length-take-le}
+use Rattle.std.proofs.Common.{◌≡◌, ℕ, zero, suc, ◌+◌, ◌*◌, ◌<◌, ◌≤◌, Bool, true, false, ltb, List, [], ◌∷◌, map, length, take, drop, Option, Ok, Err, Result, sym, refl, ap, ◌∙◌, subst, ap₂, zero-le, le_refl, arith, lit<}
+use Rattle.std.specs.Bool.{then_some}
+use Rattle.std.proofs.lemmas.List.{take-append-le, take_all}
 use Rattle.std.proofs.lemmas.Bool.{lt-ltb, ltb-true}
 use Rattle.packing.specs.Packing.{written}
-use Rattle.column.specs.Kinds.{number_of}
-use Rattle.column.specs.Columns.{Column, Clean, Offer, cleaned, words_for, Sound}
-use Rattle.column.specs.declared.views.View.{View}
+use Rattle.column.specs.Columns.{Column, Clean, Offer, cleaned}
+use Rattle.scheme.specs.declared.scheme.ChildShape.{ChildShape}
 use Rattle.scheme.specs.declared.scheme.Shape.{Shape}
 use Rattle.scheme.specs.Meaning.{Meaning, Parts, Keeps, PartsKeep, PartedKeeps, NoLonger}
 use Rattle.scheme.specs.Memory.{outline, stored_child, child_seen, shape_seen, payload_in}
 use Rattle.scheme.proofs.StoredLaws.{cleaned-stored}
-use Rattle.roundtrip.specs.Trips.{gathered, Returned}
+use Rattle.roundtrip.specs.Trips.{child_rows, child_offer, gathered, Returned}
 
 -- ---- what a shape says
 
@@ -75,24 +75,24 @@ second_short N (suc (suc n)) a b [] e l h = cons-nil e
 second_short N (suc (suc n)) a b (k ∷ []) e l h = cons-nil (tail-is e)
 second_short N (suc (suc n)) a b (k ∷ (q ∷ ks)) e l h = subst (λ x. x.0 ≤ N) (sym (head-is (tail-is e))) l.1.0
 
--- the rows as the code takes them: 0 for a child that is not there
-pub rows_short : (i count n0 rows N : ℕ) → (ltb i count ≡ true → n0 ≡ rows) → (ltb i count ≡ false → n0 ≡ 0) → (i < count → rows ≤ N) → n0 ≤ N
-rows_short i count n0 rows N there none short = go (ltb i count) refl
+-- and so are those that the code takes, none of a child that is not there
+rows_short : (i count N : ℕ) (s : ChildShape) → (i < count → s.rows ≤ N) → child_rows (then_some (ltb i count) s) ≤ N
+rows_short i count N s short = go (ltb i count) refl
   where
-    go : (b : Bool) → ltb i count ≡ b → n0 ≤ N
-    go true t = subst (λ k. k ≤ N) (sym (there t)) (short (ltb-true i count t))
-    go false t = let z = none t in omega arith
+    go : (b : Bool) → ltb i count ≡ b → child_rows (then_some b s) ≤ N
+    go true t = short (ltb-true i count t)
+    go false t = zero-le
 
-module _ (m : Meaning) (c : Column) (s : Shape) (c0 w0 c1 w1 : List ℕ) (l : Laid m c s c0 w0 c1 w1) where
-  pub short0 : (count n0 : ℕ) → count ≡ m.child_count → (ltb 0 count ≡ true → n0 ≡ s.child0.rows) → (ltb 0 count ≡ false → n0 ≡ 0) → n0 ≤ length c.rows
-  short0 count n0 e there none =
-      rows_short 0 count n0 s.child0.rows (length c.rows) there none
-      (λ h. first_short (length c.rows) m.child_count _ _ l.parts.children l.kids l.keep.kids_short (subst (λ k. 0 < k) e h))
+module _ {m : Meaning} {c : Column} {s : Shape} {c0 w0 c1 w1 : List ℕ} (l : Laid m c s c0 w0 c1 w1) {count : ℕ} (e : count ≡ m.child_count) where
+  pub short0 : {o : Option ChildShape} → o ≡ then_some (ltb 0 count) s.child0 → child_rows o ≤ length c.rows
+  short0 p =
+      subst (λ x. child_rows x ≤ length c.rows) (sym p)
+      (rows_short 0 count (length c.rows) s.child0 (λ h. first_short (length c.rows) m.child_count _ _ l.parts.children l.kids l.keep.kids_short (subst (λ k. 0 < k) e h)))
 
-  pub short1 : (count n1 : ℕ) → count ≡ m.child_count → (ltb 1 count ≡ true → n1 ≡ s.child1.rows) → (ltb 1 count ≡ false → n1 ≡ 0) → n1 ≤ length c.rows
-  short1 count n1 e there none =
-      rows_short 1 count n1 s.child1.rows (length c.rows) there none
-      (λ h. second_short (length c.rows) m.child_count _ _ l.parts.children l.kids l.keep.kids_short (subst (λ k. 1 < k) e h))
+  pub short1 : {o : Option ChildShape} → o ≡ then_some (ltb 1 count) s.child1 → child_rows o ≤ length c.rows
+  short1 p =
+      subst (λ x. child_rows x ≤ length c.rows) (sym p)
+      (rows_short 1 count (length c.rows) s.child1 (λ h. second_short (length c.rows) m.child_count _ _ l.parts.children l.kids l.keep.kids_short (subst (λ k. 1 < k) e h)))
 
 -- children read back
 kid-back : (a : ℕ × Offer) (o : Offer) (k : Column) → o ≡ a.1 → a ≡ stored_child k → cleaned o ≡ k
@@ -111,70 +111,47 @@ kids-back (suc (suc zero)) a b o q (k ∷ (x ∷ [])) f e p r =
 kids-back (suc (suc zero)) a b o q (k ∷ (x ∷ (y ∷ ks))) f e p r = cons-nil (sym (tail-is (tail-is e)))
 kids-back (suc (suc (suc n))) a b o q (k ∷ (x ∷ ks)) f e p r = absurd (omega arith)
 
--- a child where the code takes it from
-offer-at : (k n rows : ℕ) (cs ws : List ℕ) → n ≡ rows
-    → ◌≡◌ {A = Offer} (record { kind = k; cells = take (n - 0) cs; words = take ((n + 63) / 64 - 0) ws }) (record { kind = k; cells = take rows cs; words = take (words_for rows) ws })
-offer-at k n rows cs ws e =
-    let p : n - 0 ≡ rows = omega arith in
-    let q : (n + 63) / 64 - 0 ≡ words_for rows = omega (arith, ap (λ x. (x + 63) / 64) e) in
-    ap₂ (λ a b. record { kind = k; cells = take a cs; words = take b ws }) p q
-
--- and its view
-pub sound-part : (v : View) (n : ℕ) (cs ws : List ℕ) → v.cells.now ≡ take (n - 0) cs → v.words.now ≡ take ((n + 63) / 64 - 0) ws
-    → n ≤ 131072 → n ≤ length cs → (n + 63) / 64 ≤ length ws → Sound v
-sound-part v n cs ws p q few lc lw =
-    let a : length v.cells.now ≡ n = ap length p ∙ length-take-le (n - 0) cs (omega arith) ∙ (let t : n - 0 ≡ n = omega arith in t) in
-    let b : length v.words.now ≡ (n + 63) / 64 = ap length q ∙ length-take-le ((n + 63) / 64 - 0) ws (omega arith) ∙ (let t : (n + 63) / 64 - 0 ≡ (n + 63) / 64 = omega arith in t) in
-    record { few = omega arith; words = b ∙ ap words_for (sym a) }
-
--- of no more rows than n
-pub short-part : (xs : List ℕ) (n m : ℕ) (cs : List ℕ) → xs ≡ take (n - 0) cs → n ≤ m → length xs ≤ m
-short-part xs n m cs p h =
-    let a = ap length p in
-    let b = length-take (n - 0) cs in
-    omega arith
+-- a child that is there, as the code takes it
+offer-there : (i count : ℕ) (s : ChildShape) (o : Offer) (cs ws : List ℕ) → i < count → o ≡ child_offer (then_some (ltb i count) s) cs ws → o ≡ (child_seen s cs ws).1
+offer-there i count s o cs ws h e = e ∙ ap (λ b. child_offer (then_some b s) cs ws) (lt-ltb i count h)
 
 -- ---- the payload
 
-payload-back : (new old : List ℕ) (n : ℕ) → n ≡ length new → take (n - 0) (written new old) ≡ new
+payload-back : (new old : List ℕ) (n : ℕ) → n ≡ length new → take n (written new old) ≡ new
 payload-back new old n e =
-    let p : n - 0 ≡ length new = omega arith in
-    ap (λ k. take k (written new old)) p ∙ take-append-le (length new) new (drop (length new) old) (le_refl (length new)) ∙ take_all (length new) new (le_refl (length new))
+    ap (λ k. take k (written new old)) e ∙ take-append-le (length new) new (drop (length new) old) (le_refl (length new)) ∙ take_all (length new) new (le_refl (length new))
 
 -- ---- all together
 
-module _ (m : Meaning) (c : Column) (s : Shape) (c0 w0 c1 w1 : List ℕ) (l : Laid m c s c0 w0 c1 w1) where
+module _ {m : Meaning} {c : Column} {s : Shape} {c0 w0 c1 w1 : List ℕ} (l : Laid m c s c0 w0 c1 w1) where
   pub payload-fits : (z : ℕ) → 9 * length c.rows + 16 ≤ z → length (payload_in (m.parts c)) ≤ z
   payload-fits z h = let k = l.keep.small in subst (λ r. length (payload_in r) ≤ z) (sym l.given) (omega arith)
 
   pub payload-ends : (z : ℕ) → 9 * length c.rows + 16 ≤ z → s.payload ≤ z
   payload-ends z h = let k = l.keep.small in let e = l.payload in omega arith
 
-  children-back : (count n0 n1 : ℕ) → count ≡ m.child_count → (ltb 0 count ≡ true → n0 ≡ s.child0.rows) → (ltb 1 count ≡ true → n1 ≡ s.child1.rows)
-      → take m.child_count (cleaned (record { kind = number_of s.child0.kind; cells = take (n0 - 0) c0; words = take ((n0 + 63) / 64 - 0) w0 })
-      ∷ (cleaned (record { kind = number_of s.child1.kind; cells = take (n1 - 0) c1; words = take ((n1 + 63) / 64 - 0) w1 }) ∷ [])) ≡ l.parts.children
-  children-back count n0 n1 e there0 there1 =
-      kids-back m.child_count _ _ _ _ l.parts.children l.few l.kids
-      (λ h. offer-at (number_of s.child0.kind) n0 s.child0.rows c0 w0 (there0 (lt-ltb 0 count (subst (λ k. 0 < k) (sym e) h))))
-      (λ h. offer-at (number_of s.child1.kind) n1 s.child1.rows c1 w1 (there1 (lt-ltb 1 count (subst (λ k. 1 < k) (sym e) h))))
+  children-back : (count : ℕ) (o0 o1 : Offer) → count ≡ m.child_count → o0 ≡ child_offer (then_some (ltb 0 count) s.child0) c0 w0 → o1 ≡ child_offer (then_some (ltb 1 count) s.child1) c1 w1
+      → take m.child_count (cleaned o0 ∷ (cleaned o1 ∷ [])) ≡ l.parts.children
+  children-back count o0 o1 e p0 p1 =
+      kids-back m.child_count _ _ o0 o1 l.parts.children l.few l.kids
+      (λ h. offer-there 0 count s.child0 o0 c0 w0 (subst (λ k. 0 < k) (sym e) h) p0)
+      (λ h. offer-there 1 count s.child1 o1 c1 w1 (subst (λ k. 1 < k) (sym e) h) p1)
 
-  parts-back : (pay : List ℕ) (kids : List Column) → pay ≡ l.parts.payload → kids ≡ l.parts.children
-      → ◌≡◌ {A = Parts} (record { payload = pay; cell_bits = s.cell_bits; flag = s.flag; children = kids }) l.parts
-  parts-back pay kids p k =
-      ap₂ (λ a b. record { payload = a; cell_bits = s.cell_bits; flag = s.flag; children = b }) p k
-      ∙ ap₂ (λ a b. record { payload = l.parts.payload; cell_bits = a; flag = b; children = l.parts.children }) l.bits l.flag
+  parts-back : (pay : List ℕ) (bits flag : ℕ) (kids : List Column) → pay ≡ l.parts.payload → bits ≡ s.cell_bits → flag ≡ s.flag → kids ≡ l.parts.children
+      → ◌≡◌ {A = Parts} (record { payload = pay; cell_bits = bits; flag = flag; children = kids }) l.parts
+  parts-back pay bits flag kids p b f k =
+      ap₂ (λ x y. record { payload = x; cell_bits = bits; flag = flag; children = y }) p k
+      ∙ ap₂ (λ x y. record { payload = l.parts.payload; cell_bits = x; flag = y; children = l.parts.children }) (b ∙ l.bits) (f ∙ l.flag)
 
-  pub trip : (old : List ℕ) (count n0 n1 rows : ℕ) (before after : Column) → rows ≡ length c.rows → count ≡ m.child_count
-      → (ltb 0 count ≡ true → n0 ≡ s.child0.rows) → (ltb 1 count ≡ true → n1 ≡ s.child1.rows)
+  pub trip : (old : List ℕ) (count rows bits flag : ℕ) (o0 o1 : Offer) (before after : Column) → rows ≡ length c.rows → bits ≡ s.cell_bits → flag ≡ s.flag → count ≡ m.child_count
+      → o0 ≡ child_offer (then_some (ltb 0 count) s.child0) c0 w0 → o1 ≡ child_offer (then_some (ltb 1 count) s.child1) c1 w1
       → (pay : List ℕ) → pay ≡ written (payload_in (m.parts c)) old
-      → after ≡ m.join c.kind rows (gathered m.child_count (take (s.payload - 0) pay) s.cell_bits s.flag
-      (cleaned (record { kind = number_of s.child0.kind; cells = take (n0 - 0) c0; words = take ((n0 + 63) / 64 - 0) w0 }))
-      (cleaned (record { kind = number_of s.child1.kind; cells = take (n1 - 0) c1; words = take ((n1 + 63) / 64 - 0) w1 })))
+      → after ≡ m.join c.kind rows (gathered m.child_count (take s.payload pay) bits flag (cleaned o0) (cleaned o1))
       → Returned (m.parts c) c (Ok tt) before after
-  trip old count n0 n1 rows before after r e there0 there1 pay w j =
-      let p : take (s.payload - 0) pay ≡ l.parts.payload =
-      ap (take (s.payload - 0)) (w ∙ ap (λ x. written (payload_in x) old) l.given) ∙ payload-back l.parts.payload old s.payload l.payload in
+  trip old count rows bits flag o0 o1 before after r b f e p0 p1 pay w j =
+      let p : take s.payload pay ≡ l.parts.payload =
+      ap (take s.payload) (w ∙ ap (λ x. written (payload_in x) old) l.given) ∙ payload-back l.parts.payload old s.payload l.payload in
       subst (λ x. Returned x c (Ok tt) before after) (sym l.given) (
         refl,
-        j ∙ ap₂ (λ a b. m.join c.kind a b) r (parts-back _ _ p (children-back count n0 n1 e there0 there1)) ∙ l.keep.joins,
+        j ∙ ap₂ (λ a q. m.join c.kind a q) r (parts-back _ bits flag _ p b f (children-back count o0 o1 e p0 p1)) ∙ l.keep.joins,
       )

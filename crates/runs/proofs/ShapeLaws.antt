@@ -1,9 +1,8 @@
 -- The parts as they lie in lent places.
-use Rattle.std.proofs.Common.{◌≡◌, ℕ, ◌≤◌, Bool, true, false, List, [], ◌∷◌, length, take, Ok, Result, refl, ◌∙◌}
-use mir.Val.{bool_byte}
+use Rattle.std.proofs.Common.{◌≡◌, ℕ, ◌≤◌, List, [], ◌∷◌, length, take, Ok, Result, ◌∙◌}
 use Rattle.packing.specs.Packing.{written}
 use Rattle.column.specs.Columns.{Column, values, words_for}
-use Rattle.node.specs.Payloads.{flag_by, flag_of, mask, ones, words_of}
+use Rattle.node.specs.Payloads.{flag_of, mask, ones, words_of}
 use Rattle.scheme.specs.Children.{narrow}
 use Rattle.scheme.specs.Memory.{Outline, outline}
 use Rattle.scheme.proofs.ChildLaws.{some_stored}
@@ -32,7 +31,3 @@ shaped col payload flag runs kind c0 w0 old0 c1 w1 old1 p f a b k =
     let s0 = some_stored col.kind runs (heads vs) c0 w0 old0 a.cells a.room a.words in
     let s1 = (λ t. (runs, record { kind = k t; cells = take runs c1; words = take (words_for runs) w1 })) ∙ some_stored (narrow (length vs)) runs (ends vs) c1 w1 old1 b.cells b.room b.words in
     λ t. Ok (record { payload = p t; cell_bits = 0; flag = f t; children = s0 t ∷ (s1 t ∷ []) })
-
-pub flag_is : (q : Bool) → bool_byte q ≡ flag_by q
-flag_is true = refl
-flag_is false = refl

@@ -1,74 +1,97 @@
--- Values taken apart into runs, one value at a time.
-use Rattle.std.proofs.Common.{◌≡◌, ℕ, suc, ◌+◌, ◌<◌, ◌≤◌, true, false, eqb, List, [], ◌∷◌, ◌++◌, length, get_or, take, drop, set, sym, refl, ap, ◌∙◌, add-one, arith}
-use Rattle.std.proofs.lemmas.List.{append_assoc, append-nil, drop_all, drop_more, take_more_set}
-use Rattle.std.proofs.lemmas.Bool.{eq-eqb, ne_eqb}
+-- Values taken apart into runs, one run at a time.
+use Rattle.std.proofs.Common.{◌≡◌, ℕ, zero, suc, ◌+◌, ◌-◌, ◌<◌, ◌≤◌, true, false, eqb, List, [], ◌∷◌, ◌++◌, length, get_or, take, drop, set, sym, refl, ap, ◌∙◌, subst, add-one, arith}
+use Rattle.std.specs.List.{IsChunkByPrefix}
+use Rattle.std.proofs.Math.Seq.{drop-append_seam}
+use Rattle.std.proofs.lemmas.List.{append_assoc, append-nil, length-append, take_more_set}
 use Rattle.runs.specs.Runs.{unless, heads_after, heads, ends_after, ends}
 
--- i values are taken apart; the run they end in is of last
-pub record Split (xs fs es : List ℕ) (i run last : ℕ) : Type 0 where
-  pub firsts : take (run + 1) fs ++ heads_after last (drop i xs) ≡ heads xs
-  pub ends : take run es ++ ends_after i last (drop i xs) ≡ ends xs
-  pub few : run < i
+-- the ends of the runs of these values, n standing before them
+abbrev pub ends_from : ℕ → List ℕ → List ℕ
+ends_from n [] = []
+ends_from n (v ∷ vs) = ends_after (suc n) v vs
 
-pub split-start : (xs fs es gs : List ℕ) → 0 < length xs → 0 < length fs → gs ≡ set fs 0 (get_or xs 0 0) → Split xs gs es 1 0 (get_or xs 0 0)
-split-start [] fs es gs l m e = absurd (omega arith)
-split-start (x ∷ xs) [] es gs l m e = absurd (omega arith)
-split-start (x ∷ xs) (f ∷ fs) es gs l m e = record { firsts = ap (λ hs. take 1 hs ++ heads_after x xs) e; ends = refl; few = omega arith }
+-- so many runs stand in front, of so many values; rest is to come
+pub record Split (xs fs es : List ℕ) (before runs : ℕ) (rest : List ℕ) : Type 0 where
+  pub firsts : take runs fs ++ heads rest ≡ heads xs
+  pub ends : take runs es ++ ends_from before rest ≡ ends xs
+  pub all : before + length rest ≡ length xs
+  pub few : runs ≤ before
 
-pub split-as : {xs fs es : List ℕ} {i run last : ℕ} → Split xs fs es i run last → (gs hs : List ℕ) (run2 last2 : ℕ) → gs ≡ fs → hs ≡ es → run2 ≡ run → last2 ≡ last → Split xs gs hs i run2 last2
-split-as {xs} {fs} {es} {i} {run} {last} s gs hs run2 last2 g h r l =
-    let few = s.few in
+pub split-start : (xs fs es : List ℕ) → Split xs fs es 0 0 xs
+split-start xs fs es = record { firsts = refl; ends = from-none xs; all = omega arith; few = omega arith }
+  where
+    from-none : (vs : List ℕ) → ends_from 0 vs ≡ ends vs
+    from-none [] = refl
+    from-none (v ∷ vs) = refl
+
+-- p and the n values after it are equal, and what follows them is not
+record Run (p : ℕ) (vs : List ℕ) (n : ℕ) : Type 0 where
+  pub within : n ≤ length vs
+  pub same : (k : ℕ) → k < n → eqb (get_or (p ∷ vs) k 0) (get_or (p ∷ vs) (suc k) 0) ≡ true
+  pub over : n < length vs → eqb (get_or (p ∷ vs) n 0) (get_or (p ∷ vs) (suc n) 0) ≡ false
+
+less : {p v : ℕ} {vs : List ℕ} {n : ℕ} → Run p (v ∷ vs) (suc n) → Run v vs n
+less r = record { within = (let w = r.within in omega arith); same = λ k h. r.same (suc k) (omega arith); over = λ h. r.over (omega arith) }
+
+run-head : (p : ℕ) (vs : List ℕ) (n : ℕ) → Run p vs n → heads_after p vs ≡ heads (drop n vs)
+run-head p [] zero r = refl
+run-head p (v ∷ vs) zero r = ap (λ b. unless b v (heads_after v vs)) (r.over (omega arith))
+run-head p [] (suc n) r = absurd (let w = r.within in omega arith)
+run-head p (v ∷ vs) (suc n) r = ap (λ b. unless b v (heads_after v vs)) (r.same 0 (omega arith)) ∙ run-head v vs n (less r)
+
+run-end : (b p : ℕ) (vs : List ℕ) (n t : ℕ) → suc b + n ≡ t → Run p vs n → ends_after (suc b) p vs ≡ t ∷ ends_from t (drop n vs)
+run-end b p [] zero t e r = let s : suc b ≡ t = omega arith in ap (λ x. x ∷ []) s
+run-end b p (v ∷ vs) zero t e r =
+    let s : suc b ≡ t = omega arith in
+    ap (λ q. unless q (suc b) (ends_after (suc (suc b)) v vs)) (r.over (omega arith)) ∙ ap (λ x. x ∷ ends_from x (v ∷ vs)) s
+run-end b p [] (suc n) t e r = absurd (let w = r.within in omega arith)
+run-end b p (v ∷ vs) (suc n) t e r =
+    ap (λ q. unless q (suc b) (ends_after (suc (suc b)) v vs)) (r.same 0 (omega arith)) ∙ run-end (suc b) v vs n t (omega arith) (less r)
+
+-- the first run of what is to come
+first-run : (p : ℕ) (c rest : List ℕ) → IsChunkByPrefix eqb (p ∷ (c ++ rest)) (length (p ∷ c)) → Run p (c ++ rest) (length c)
+first-run p c rest h =
+    let l = length-append c rest in
     record {
-      firsts = (λ t. take (r t + 1) (g t) ++ heads_after (l t) (drop i xs)) ∙ s.firsts;
-      ends = (λ t. take (r t) (h t) ++ ends_after i (l t) (drop i xs)) ∙ s.ends;
-      few = omega arith;
+      within = omega arith;
+      same = λ k b. subst (λ j. eqb (get_or (p ∷ (c ++ rest)) k 0) (get_or (p ∷ (c ++ rest)) j 0) ≡ true) (add-one k) (h.0 k 0 (omega arith));
+      over = λ b.
+          subst (λ j. eqb (get_or (p ∷ (c ++ rest)) j 0) (get_or (p ∷ (c ++ rest)) (suc (length c)) 0) ≡ false) (let z : suc (length c) - 1 ≡ length c = omega arith in z) (h.1 (omega arith) 0);
     }
 
--- one more value of the run
-pub split-same : {xs fs es : List ℕ} {i run last : ℕ} → Split xs fs es i run last → i < length xs → get_or xs i 0 ≡ last → Split xs fs es (i + 1) run last
-split-same {xs} {fs} {es} {i} {run} {last} s l e =
-    let v = get_or xs i 0 in
-    let rest = drop (i + 1) xs in
-    let d = drop_more xs i 0 l in
-    let q : eqb last v ≡ true = eq-eqb last v (sym e) in
-    let h : heads_after last (drop i xs) ≡ heads_after last rest = ap (heads_after last) d ∙ ap (λ b. unless b v (heads_after v rest)) q ∙ ap (λ x. heads_after x rest) e in
-    let f : ends_after i last (drop i xs) ≡ ends_after (i + 1) last rest =
-    ap (ends_after i last) d ∙ ap (λ b. unless b i (ends_after (suc i) v rest)) q ∙ (λ j. ends_after (sym (add-one i) j) (e j) rest) in
-    record { firsts = ap (λ hs. take (run + 1) fs ++ hs) (sym h) ∙ s.firsts; ends = ap (λ hs. take run es ++ hs) (sym f) ∙ s.ends; few = omega (arith, s.few) }
-
--- the first value of another
-pub split-new : {xs fs es : List ℕ} {i run last : ℕ} → Split xs fs es i run last → i < length xs → (get_or xs i 0 ≡ last → ⊥) → i < length fs → run < length es
-    → (gs hs : List ℕ) → gs ≡ set fs (run + 1) (get_or xs i 0) → hs ≡ set es run i → Split xs gs hs (i + 1) (run + 1) (get_or xs i 0)
-split-new {xs} {fs} {es} {i} {run} {last} s l e m n gs hs g h =
-    let v = get_or xs i 0 in
-    let rest = drop (i + 1) xs in
-    let d = drop_more xs i 0 l in
-    let q : eqb last v ≡ false = ne_eqb last v (λ x. e (sym x)) in
-    let r = s.few in
-    let a : heads_after last (drop i xs) ≡ v ∷ heads_after v rest = ap (heads_after last) d ∙ ap (λ b. unless b v (heads_after v rest)) q in
-    let b : ends_after i last (drop i xs) ≡ i ∷ ends_after (i + 1) v rest =
-    ap (ends_after i last) d ∙ ap (λ b. unless b i (ends_after (suc i) v rest)) q ∙ ap (λ j. i ∷ ends_after j v rest) (sym (add-one i)) in
+-- one more run
+pub split-more : {xs fs es : List ℕ} {before runs : ℕ} {now : List ℕ} → Split xs fs es before runs now → (c rest : List ℕ) → now ≡ c ++ rest → 0 < length c
+    → IsChunkByPrefix eqb now (length c) → runs < length fs → runs < length es
+    → Split xs (set fs runs (get_or c 0 0)) (set es runs (before + length c)) (before + length c) (runs + 1) rest
+split-more s [] rest e l h m n = absurd (omega arith)
+split-more {xs} {fs} {es} {before} {runs} {now} s (p ∷ c) rest e l h m n =
+    let r = first-run p c rest (subst (λ ys. IsChunkByPrefix eqb ys (length (p ∷ c))) e h) in
+    let t = before + length (p ∷ c) in
+    let seam = drop-append_seam c rest in
+    let a : heads now ≡ p ∷ heads rest = ap heads e ∙ ap (λ ys. p ∷ ys) (run-head p (c ++ rest) (length c) r ∙ ap heads seam) in
+    let b : ends_from before now ≡ t ∷ ends_from t rest =
+    ap (ends_from before) e ∙ run-end before p (c ++ rest) (length c) t (omega arith) r ∙ ap (λ ys. t ∷ ends_from t ys) seam in
+    let all = s.all in
+    let few = s.few in
+    let ln = ap length e in
+    let la = length-append c rest in
     record {
       firsts =
-          ap (λ ys. ys ++ heads_after v rest) (ap (take (run + 1 + 1)) g ∙ take_more_set fs (run + 1) v (omega arith))
-          ∙ append_assoc (take (run + 1) fs) (v ∷ []) (heads_after v rest)
-          ∙ ap (λ ys. take (run + 1) fs ++ ys) (sym a)
+          ap (λ ys. ys ++ heads rest) (take_more_set fs runs p m)
+          ∙ append_assoc (take runs fs) (p ∷ []) (heads rest)
+          ∙ ap (λ ys. take runs fs ++ ys) (sym a)
           ∙ s.firsts;
       ends =
-          ap (λ ys. ys ++ ends_after (i + 1) v rest) (ap (take (run + 1)) h ∙ take_more_set es run i n)
-          ∙ append_assoc (take run es) (i ∷ []) (ends_after (i + 1) v rest)
-          ∙ ap (λ ys. take run es ++ ys) (sym b)
+          ap (λ ys. ys ++ ends_from t rest) (take_more_set es runs t n)
+          ∙ append_assoc (take runs es) (t ∷ []) (ends_from t rest)
+          ∙ ap (λ ys. take runs es ++ ys) (sym b)
           ∙ s.ends;
+      all = omega arith;
       few = omega arith;
     }
 
-pub split-firsts : {xs fs es : List ℕ} {i run last : ℕ} → Split xs fs es i run last → length xs ≤ i → take (run + 1) fs ≡ heads xs
-split-firsts {xs} {fs} {es} {i} {run} {last} s l =
-    sym (append-nil (take (run + 1) fs)) ∙ ap (λ ys. take (run + 1) fs ++ heads_after last ys) (sym (drop_all i xs l)) ∙ s.firsts
+pub split-firsts : {xs fs es : List ℕ} {before runs : ℕ} {rest : List ℕ} → Split xs fs es before runs rest → rest ≡ [] → take runs fs ≡ heads xs
+split-firsts {xs} {fs} {es} {before} {runs} s e = sym (append-nil (take runs fs)) ∙ ap (λ ys. take runs fs ++ heads ys) (sym e) ∙ s.firsts
 
-pub split-ends : {xs fs es : List ℕ} {i run last : ℕ} → Split xs fs es i run last → i ≡ length xs → run < length es → take (run + 1) (set es run (length xs)) ≡ ends xs
-split-ends {xs} {fs} {es} {i} {run} {last} s l n =
-    take_more_set es run (length xs) n
-    ∙ ap (λ j. take run es ++ (j ∷ [])) (sym l)
-    ∙ ap (λ ys. take run es ++ ends_after i last ys) (sym (drop_all i xs (omega arith)))
-    ∙ s.ends
+pub split-ends : {xs fs es : List ℕ} {before runs : ℕ} {rest : List ℕ} → Split xs fs es before runs rest → rest ≡ [] → take runs es ≡ ends xs
+split-ends {xs} {fs} {es} {before} {runs} s e = sym (append-nil (take runs es)) ∙ ap (λ ys. take runs es ++ ends_from before ys) (sym e) ∙ s.ends

@@ -1,7 +1,11 @@
 -- Runs written out, and values spread over rows.
-use Rattle.std.proofs.Common.{◌≡◌, ℕ, zero, suc, ◌+◌, ◌-◌, ◌<◌, ◌≤◌, min, ◌⊎◌, List, [], ◌∷◌, ◌++◌, length, get_or, take, drop, set, replicate, Some, None, sym, refl, ap, ◌∙◌, inl, inr, arith}
+use Rattle.std.proofs.Common.{◌≡◌, ℕ, zero, suc, ◌+◌, ◌-◌, ◌<◌, ◌≤◌, min, ◌⊎◌, List, [], ◌∷◌, ◌++◌, length, get_or, take, drop, set, replicate, Some, None, Option, sym, refl, ap, ◌∙◌, inl, inr, arith}
 use borrow.Rule.Slice.PartMut.{put_mid}
-use Rattle.std.proofs.lemmas.List.{append_assoc, append-nil, drop_all, drop_more, get_or_past, length-drop, length-replicate, length-take-le, take_all, take_more, take_more_set}
+use denote.Ref.{Bor}
+use Rattle.std.specs.Option.{unwrap_or, option_copied}
+use Rattle.std.specs.declared.slice.Iter.{Iter}
+use Rattle.std.specs.Slice.Iter.{iter_rest, iter_steps}
+use Rattle.std.proofs.lemmas.List.{append_assoc, append-nil, nil_from_length, drop_all, drop_more, length-drop, length-replicate, length-take-le, take_all, take_more, take_more_set}
 use Rattle.std.proofs.lemmas.Slice.{take-put_mid}
 use Rattle.std.proofs.lemmas.Bool.{cases_lt}
 use Rattle.packing.specs.Packing.{written}
@@ -37,19 +41,21 @@ pub record Wrote (fs es out : List ℕ) (len i before count : ℕ) : Type 0 wher
 pub wrote_none : (fs es out : List ℕ) → Wrote fs es out (length out) 0 0 0
 wrote_none fs es out = record { front = ap (λ n. take n (unrun 0 fs es)) (let s : length out - 0 ≡ length out = omega arith in s); few = omega arith }
 
-pub wrote-more : {fs es out : List ℕ} {len i before count : ℕ} → Wrote fs es out len i before count → i < length fs → i < length es → length out ≡ len
-    → (m end : ℕ) (part : List ℕ) → m ≡ min (get_or es i 0 - before) (len - count) → end ≡ count + m
-    → part ≡ replicate (length (take (end - count) (drop count out))) (get_or fs i 0) → Wrote fs es (put_mid count (end - count) out part) len (i + 1) (get_or es i 0) end
-wrote-more {fs} {es} {out} {len} {i} {before} {count} w f e l m end part mm en p =
-    let v = get_or fs i 0 in
-    let k = get_or es i 0 - before in
-    let rest = unrun (get_or es i 0) (drop (i + 1) fs) (drop (i + 1) es) in
+-- one more run, of v up to x
+pub wrote-more : {fs es out : List ℕ} {len i before count : ℕ} → Wrote fs es out len i before count → (v x : ℕ) → v ≡ get_or fs i 0 → x ≡ get_or es i 0 → i < length fs → i < length es → length out ≡ len
+    → (j m end : ℕ) (part : List ℕ) → j ≡ i + 1 → m ≡ min (x - before) (len - count) → end ≡ count + m
+    → part ≡ replicate (length (take (end - count) (drop count out))) v → Wrote fs es (put_mid count (end - count) out part) len j x end
+wrote-more {fs} {es} {out} {len} {i} {before} {count} w v x ev ex f e l j m end part jj mm en p =
+    let k = x - before in
+    let rest = unrun x (drop j fs) (drop j es) in
     let few = w.few in
     let ld = length-drop count out in
     let lp : length (take (end - count) (drop count out)) ≡ m = length-take-le (end - count) (drop count out) (omega arith) ∙ omega arith in
     let q : part ≡ replicate m v = p ∙ ap (λ x. replicate x v) lp in
     let lq : length part ≡ m = ap length q ∙ length-replicate m v in
-    let step : unrun before (drop i fs) (drop i es) ≡ times k v rest = λ t. unrun before (drop_more fs i 0 f t) (drop_more es i 0 e t) in
+    let step : unrun before (drop i fs) (drop i es) ≡ times k v rest =
+    (λ t. unrun before (drop_more fs i 0 f t) (drop_more es i 0 e t))
+    ∙ (λ t. times (sym ex t - before) (sym ev t) (unrun (sym ex t) (drop (sym jj t) fs) (drop (sym jj t) es))) in
     let run : take (len - count) (unrun before (drop i fs) (drop i es)) ≡ replicate m v ++ take (len - count - m) rest =
     ap (take (len - count)) step ∙ times-front m (len - count) k v rest (omega arith) (omega arith) (which (cases_lt k (len - count))) in
     let left : len - end ≡ len - count - m = omega arith in
@@ -64,7 +70,7 @@ wrote-more {fs} {es} {out} {len} {i} {before} {count} w f e l m end part mm en p
       few = omega arith;
     }
   where
-    which : (get_or es i 0 - before < len - count) ⊎ (len - count ≤ get_or es i 0 - before) → (m ≡ get_or es i 0 - before) ⊎ (m ≡ len - count)
+    which : (x - before < len - count) ⊎ (len - count ≤ x - before) → (m ≡ x - before) ⊎ (m ≡ len - count)
     which (inl h) = inl (omega arith)
     which (inr h) = inr (omega arith)
 
@@ -88,22 +94,22 @@ wrote-all {fs} {es} {out} {len} {i} {before} {count} w h =
 
 -- ---- values spread over rows
 
--- i rows are done, with next values
-pub record Spread (bs vs cs : List ℕ) (i next : ℕ) : Type 0 where
-  pub rows : rows_of (take i bs) (take i cs) ++ filled (drop i bs) (drop next vs) ≡ filled bs vs
+-- i rows are done, and these values are left
+pub record Spread (bs vs cs : List ℕ) (i : ℕ) (left : List ℕ) : Type 0 where
+  pub rows : rows_of (take i bs) (take i cs) ++ filled (drop i bs) left ≡ filled bs vs
 
-filled_more : (bs vs : List ℕ) (j : ℕ) → filled (1 ∷ bs) (drop j vs) ≡ Some (get_or vs j 0) ∷ filled bs (drop (j + 1) vs)
-filled_more bs vs j = go (cases_lt j (length vs))
-  where
-    go : (j < length vs) ⊎ (length vs ≤ j) → filled (1 ∷ bs) (drop j vs) ≡ Some (get_or vs j 0) ∷ filled bs (drop (j + 1) vs)
-    go (inl h) = ap (filled (1 ∷ bs)) (drop_more vs j 0 h)
-    go (inr h) = ap (filled (1 ∷ bs)) (drop_all j vs h) ∙ (λ t. Some (sym (get_or_past vs j 0 h) t) ∷ filled bs (sym (drop_all (j + 1) vs (omega arith)) t))
+-- the next value, 0 where there is none
+filled_more : (bs : List ℕ) (s t : Iter ℕ) (r : Option (Bor ℕ)) → iter_steps s r t → filled (1 ∷ bs) (iter_rest s) ≡ Some (unwrap_or (option_copied r) 0) ∷ filled bs (iter_rest t)
+filled_more bs s t None h =
+    let e = nil_from_length (iter_rest s) h.0 in
+    ap (filled (1 ∷ bs)) e ∙ ap (λ xs. Some 0 ∷ filled bs xs) (sym (ap iter_rest h.1 ∙ e))
+filled_more bs s t (Some x) h = ap (filled (1 ∷ bs)) h
 
 -- one more row: what its bit and cell say is what the values say
-row_done : {bs vs cs : List ℕ} {i next : ℕ} → Spread bs vs cs i next → (b y next2 : ℕ) (cs2 : List ℕ) → i < length bs → i < length cs → b ≡ get_or bs i 0
-    → take (i + 1) cs2 ≡ take i cs ++ (y ∷ []) → filled (b ∷ drop (i + 1) bs) (drop next vs) ≡ row_of b y ∷ filled (drop (i + 1) bs) (drop next2 vs)
-    → Spread bs vs cs2 (i + 1) next2
-row_done {bs} {vs} {cs} {i} {next} s b y next2 cs2 l m e t f =
+row_done : {bs vs cs : List ℕ} {i : ℕ} {left : List ℕ} → Spread bs vs cs i left → (b y : ℕ) (left2 cs2 : List ℕ) → i < length bs → i < length cs → b ≡ get_or bs i 0
+    → take (i + 1) cs2 ≡ take i cs ++ (y ∷ []) → filled (b ∷ drop (i + 1) bs) left ≡ row_of b y ∷ filled (drop (i + 1) bs) left2
+    → Spread bs vs cs2 (i + 1) left2
+row_done {bs} {vs} {cs} {i} {left} s b y left2 cs2 l m e t f =
     let bs2 = drop (i + 1) bs in
     let d : drop i bs ≡ b ∷ bs2 = drop_more bs i 0 l ∙ ap (λ x. x ∷ bs2) (sym e) in
     let tb : take (i + 1) bs ≡ take i bs ++ (b ∷ []) = take_more bs i 0 l ∙ ap (λ x. take i bs ++ (x ∷ [])) (sym e) in
@@ -111,28 +117,30 @@ row_done {bs} {vs} {cs} {i} {next} s b y next2 cs2 l m e t f =
     let lc = length-take-le i cs (omega arith) in
     record {
       rows =
-          ap (λ rs. rs ++ filled bs2 (drop next2 vs)) ((λ k. rows_of (tb k) (t k)) ∙ rows_append (take i bs) (b ∷ []) (take i cs) (y ∷ []) (lb ∙ sym lc))
-          ∙ append_assoc (rows_of (take i bs) (take i cs)) (row_of b y ∷ []) (filled bs2 (drop next2 vs))
-          ∙ ap (λ rs. rows_of (take i bs) (take i cs) ++ rs) (sym f ∙ ap (λ xs. filled xs (drop next vs)) (sym d))
+          ap (λ rs. rs ++ filled bs2 left2) ((λ k. rows_of (tb k) (t k)) ∙ rows_append (take i bs) (b ∷ []) (take i cs) (y ∷ []) (lb ∙ sym lc))
+          ∙ append_assoc (rows_of (take i bs) (take i cs)) (row_of b y ∷ []) (filled bs2 left2)
+          ∙ ap (λ rs. rows_of (take i bs) (take i cs) ++ rs) (sym f ∙ ap (λ xs. filled xs left) (sym d))
           ∙ s.rows;
     }
 
-pub spread-value : {bs vs cs : List ℕ} {i next : ℕ} → Spread bs vs cs i next → (y next2 : ℕ) (cs2 : List ℕ) → i < length bs → i < length cs → get_or bs i 0 ≡ 1
-    → y ≡ get_or vs next 0 → cs2 ≡ set cs i y → next2 ≡ next + 1 → Spread bs vs cs2 (i + 1) next2
-spread-value {bs} {vs} {cs} {i} {next} s y next2 cs2 l m e v c n =
-    row_done s 1 y next2 cs2 l m (sym e) (ap (take (i + 1)) c ∙ take_more_set cs i y m)
-    (filled_more (drop (i + 1) bs) vs next ∙ (λ t. Some (sym v t) ∷ filled (drop (i + 1) bs) (drop (sym n t) vs)))
+pub spread-value : {bs vs cs : List ℕ} {i : ℕ} (s t : Iter ℕ) (r : Option (Bor ℕ)) → Spread bs vs cs i (iter_rest s) → iter_steps s r t → (y : ℕ) → i < length bs → i < length cs → get_or bs i 0 ≡ 1
+    → y ≡ unwrap_or (option_copied r) 0 → Spread bs vs (set cs i y) (i + 1) (iter_rest t)
+spread-value {bs} {vs} {cs} {i} s t r now h y l m e v =
+    row_done now 1 y (iter_rest t) (set cs i y) l m (sym e) (take_more_set cs i y m)
+    (filled_more (drop (i + 1) bs) s t r h ∙ ap (λ x. Some x ∷ filled (drop (i + 1) bs) (iter_rest t)) (sym v))
 
-pub spread-blank : {bs vs cs : List ℕ} {i next : ℕ} → Spread bs vs cs i next → (next2 : ℕ) (cs2 : List ℕ) → i < length bs → i < length cs → get_or bs i 0 < 2 → (get_or bs i 0 ≡ 1 → ⊥)
-    → cs2 ≡ cs → next2 ≡ next → Spread bs vs cs2 (i + 1) next2
-spread-blank {bs} {vs} {cs} {i} {next} s next2 cs2 l m b e c n =
+pub spread-blank : {bs vs cs : List ℕ} {i : ℕ} {left : List ℕ} → Spread bs vs cs i left → i < length bs → i < length cs → get_or bs i 0 < 2 → (get_or bs i 0 ≡ 1 → ⊥) → Spread bs vs (set cs i (get_or cs i 0)) (i + 1) left
+spread-blank {bs} {vs} {cs} {i} {left} s l m b e =
     let z : 0 ≡ get_or bs i 0 = omega arith in
-    row_done s 0 (get_or cs i 0) next2 cs2 l m z (ap (take (i + 1)) c ∙ take_more cs i 0 m) (ap (λ x. None ∷ filled (drop (i + 1) bs) (drop x vs)) (sym n))
+    row_done s 0 (get_or cs i 0) left (set cs i (get_or cs i 0)) l m z (take_more_set cs i (get_or cs i 0) m) refl
 
-pub spread-all : {bs vs cs : List ℕ} {i next : ℕ} → Spread bs vs cs i next → length bs ≤ i → length cs ≤ i → rows_of bs cs ≡ filled bs vs
-spread-all {bs} {vs} {cs} {i} {next} s l m =
+pub spread-as : {bs vs cs cs2 : List ℕ} {i : ℕ} {left left2 : List ℕ} → Spread bs vs cs i left → cs2 ≡ cs → left2 ≡ left → Spread bs vs cs2 i left2
+spread-as {bs} {vs} {cs} {cs2} {i} {left} s c l = record { rows = (λ t. rows_of (take i bs) (take i (c t)) ++ filled (drop i bs) (l t)) ∙ s.rows }
+
+pub spread-all : {bs vs cs : List ℕ} {i : ℕ} {left : List ℕ} → Spread bs vs cs i left → length bs ≤ i → length cs ≤ i → rows_of bs cs ≡ filled bs vs
+spread-all {bs} {vs} {cs} {i} {left} s l m =
     sym (append-nil (rows_of bs cs))
-    ∙ (λ t. rows_of (sym (take_all i bs l) t) (sym (take_all i cs m) t) ++ filled (sym (drop_all i bs l) t) (drop next vs))
+    ∙ (λ t. rows_of (sym (take_all i bs l) t) (sym (take_all i cs m) t) ++ filled (sym (drop_all i bs l) t) left)
     ∙ s.rows
 
 -- ---- joined

@@ -6,15 +6,16 @@ ghost use Rattle.runs.specs.RunsKeeps.{runs-keeps};
 
 use crate::split::split_runs;
 use crate::spread::{spread, write_runs};
+use column::cleaned::Cleaned;
 use column::kinds::Kind;
-use column::views::View;
+use node::extent::Extent;
 use node::leaves::read_mask;
-use node::payloads::{mask_len, write_mask};
+use node::payloads::write_mask;
 use scheme::children::narrowest;
 use scheme::ctx::CompressorContext;
 use scheme::estimate::{CompressionEstimate, DeferredEstimate, EstimateScore, EstimateVerdict};
 use scheme::exclusion::{AncestorExclusion, ChildSelection, DescendantExclusion};
-use scheme::scheme::{ArrayAndStats, ChildShape, Scheme, Shape, Stored};
+use scheme::scheme::{ArrayAndStats, ChildShape, RowRefused, Scheme, Shape, Stored};
 use stats::options::GenerateStatsOptions;
 use stats::values::gather;
 
@@ -87,24 +88,24 @@ impl Scheme for RunsScheme {
 
     fn shape(
         &self,
-        array: View<'_>,
+        array: Cleaned<'_>,
         cells0: &mut [u64],
         words0: &mut [u64],
         cells1: &mut [u64],
         words1: &mut [u64],
         mem: &mut [u64],
-    ) -> Result<Shape, u32> {
-        let count = gather(array.cells, array.words, mem);
+    ) -> Result<Shape, RowRefused> {
+        let count = gather(array.view, mem);
         let runs = split_runs(&mem[0..count], cells0, cells1);
         read_mask(0, &[], runs, words0);
         read_mask(0, &[], runs, words1);
-        let has_blank = array.has_blank();
+        let extent = Extent::of(array.view);
         Ok(Shape {
-            payload: mask_len(array.rows(), has_blank),
+            payload: extent.mask_len(),
             cell_bits: 0,
-            flag: has_blank as u8,
+            flag: u8::from(extent.has_blank),
             child0: ChildShape {
-                kind: array.kind,
+                kind: array.view.kind,
                 rows: runs,
             },
             child1: ChildShape {
@@ -114,7 +115,7 @@ impl Scheme for RunsScheme {
         })
     }
 
-    fn payload(&self, array: View<'_>, _mem: &mut [u64], out: &mut [u8]) {
+    fn payload(&self, array: Cleaned<'_>, _mem: &mut [u64], out: &mut [u8]) {
         write_mask(array, out);
     }
 
@@ -123,8 +124,8 @@ impl Scheme for RunsScheme {
         let (firsts, rest) = mem.split_at_mut(rows);
         let (ends, rest) = rest.split_at_mut(rows);
         let (values, _) = rest.split_at_mut(rows);
-        let first_count = gather(stored.child0.cells, stored.child0.words, firsts);
-        let end_count = gather(stored.child1.cells, stored.child1.words, ends);
+        let first_count = gather(stored.child0, firsts);
+        let end_count = gather(stored.child1, ends);
         let count = write_runs(&firsts[0..first_count], &ends[0..end_count], values);
         read_mask(stored.flag, stored.payload, rows, words);
         spread(&values[0..count], words, cells);

@@ -1,11 +1,11 @@
 -- Digits of a number from a place on, and presence words from a row on.
-use Rattle.std.proofs.Common.{◌≡◌, ℕ, zero, suc, ◌+◌, ◌-◌, ◌*◌, ◌/◌, ◌%◌, ◌^◌, ◌<◌, ◌≤◌, List, [], ◌∷◌, ◌++◌, map, length, get_or, take, drop, Some, None, sym, refl, ap, ◌∙◌, subst, lt_of_lt_of_le, mul_assoc, pow-suc, mul-suc, div-one, arith, lit<, length-append, pow_pos, pow_mono, pow-add}
+use Rattle.std.proofs.Common.{◌≡◌, ℕ, zero, suc, ◌+◌, ◌-◌, ◌*◌, ◌/◌, ◌%◌, ◌^◌, ◌<◌, ◌≤◌, List, [], ◌∷◌, ◌++◌, map, length, get_or, take, drop, Some, None, sym, refl, ap, ◌∙◌, subst, lt_of_lt_of_le, mod-lt, mul_assoc, pow-suc, mul-suc, div-one, arith, lit<, length-append, pow_pos, pow_mono, pow-add}
 use native.Mathlib.Nat.{mod-one, zero-mod, zero-div, div-div-eq-div-mul, mul-add-mod_self_right, mul-add-div_right, one-le-pow, pow-zero, pow-succ'}
 use lib.Arith.{digits_div, digits_mod, mod-mul}
 use Rattle.std.proofs.lemmas.Nat.{shr_below}
 use Rattle.std.proofs.lemmas.List.{drop_more, length-map, map-append}
 use Rattle.packing.specs.Packing.{joined, digits, Below}
-use Rattle.packing.proofs.Below.{below-drop}
+use Rattle.packing.proofs.Below.{below-drop, below-get_or}
 use Rattle.packing.proofs.Digits.{joined-++, joined-digits, joined-lt}
 use Rattle.column.specs.Columns.{Row, bit_of, bits, presence, words_for}
 
@@ -124,21 +124,27 @@ from-word ws f h =
     ∙ ap (λ z. joined (2 ^ 64) ws / z / 2 ^ b) (sym (pow-words a))
     ∙ ap (λ z. z / 2 ^ b) (sym (joined-drop (2 ^ 64) a ws h))
 
-pub word-whole : (ws : List ℕ) (f : ℕ) → Below (2 ^ 64) ws → f / 64 < length ws → get_or ws (f / 64) 0 < 2 ^ 64 → f % 64 ≡ 0 → get_or ws (f / 64) 0 ≡ joined (2 ^ 64) ws / 2 ^ f % 2 ^ 64
-word-whole ws f h l s z =
-    let w = get_or ws (f / 64) 0 in
-    let J = joined (2 ^ 64) (drop (f / 64 + 1) ws) in
-    let e : joined (2 ^ 64) (drop (f / 64) ws) ≡ J * 2 ^ 64 + w = ap (joined (2 ^ 64)) (drop_more ws (f / 64) 0 l) in
-    sym (ap (λ x. x % 2 ^ 64) (from-word ws f h) ∙ (λ i. (e i / 2 ^ (z i)) % 2 ^ 64) ∙ ap (λ x. x % 2 ^ 64) (div-one (J * 2 ^ 64 + w)) ∙ digits_mod J s)
+module _ (ws : List ℕ) (f : ℕ) (s : (i : ℕ) → get_or ws i 0 < 2 ^ 64) where
+  below : Below (2 ^ 64) ws
+  below = below-get_or (2 ^ 64) ws s
 
-pub word_two : (ws : List ℕ) (f : ℕ) → Below (2 ^ 64) ws → f / 64 + 1 < length ws → get_or ws (f / 64) 0 < 2 ^ 64
-    → get_or ws (f / 64) 0 / 2 ^ (f % 64) + get_or ws (f / 64 + 1) 0 * 2 ^ (64 - f % 64) % 2 ^ 64 ≡ joined (2 ^ 64) ws / 2 ^ f % 2 ^ 64
-word_two ws f h l s =
-    let a = f / 64 in
-    let w = get_or ws a 0 in
-    let u = get_or ws (a + 1) 0 in
-    let X = joined (2 ^ 64) (drop (a + 1 + 1) ws) in
-    let l' : a < length ws = omega arith in
-    let e : joined (2 ^ 64) (drop a ws) ≡ (X * 2 ^ 64 + u) * 2 ^ 64 + w = ap (joined (2 ^ 64)) (drop_more ws a 0 l' ∙ ap (λ z. w ∷ z) (drop_more ws (a + 1) 0 l)) in
-    let b : f % 64 ≤ 64 = omega arith in
-    sym (ap (λ x. x % 2 ^ 64) (from-word ws f h) ∙ ap (λ x. x / 2 ^ (f % 64) % 2 ^ 64) e ∙ two-words X u w (f % 64) b s)
+  pub word_whole : f / 64 < length ws → f % 64 ≡ 0 → get_or ws (f / 64) 0 ≡ joined (2 ^ 64) ws / 2 ^ f % 2 ^ 64
+  word_whole l z =
+      let w = get_or ws (f / 64) 0 in
+      let J = joined (2 ^ 64) (drop (f / 64 + 1) ws) in
+      let e : joined (2 ^ 64) (drop (f / 64) ws) ≡ J * 2 ^ 64 + w = ap (joined (2 ^ 64)) (drop_more ws (f / 64) 0 l) in
+      sym (ap (λ x. x % 2 ^ 64) (from-word ws f below) ∙ (λ i. (e i / 2 ^ (z i)) % 2 ^ 64) ∙ ap (λ x. x % 2 ^ 64) (div-one (J * 2 ^ 64 + w)) ∙ digits_mod J (s (f / 64)))
+
+  pub word_two : f / 64 + 1 < length ws → get_or ws (f / 64) 0 / 2 ^ (f % 64) + get_or ws (f / 64 + 1) 0 * 2 ^ (64 - f % 64) % 2 ^ 64 ≡ joined (2 ^ 64) ws / 2 ^ f % 2 ^ 64
+  word_two l =
+      let a = f / 64 in
+      let w = get_or ws a 0 in
+      let u = get_or ws (a + 1) 0 in
+      let X = joined (2 ^ 64) (drop (a + 1 + 1) ws) in
+      let l' : a < length ws = omega arith in
+      let e : joined (2 ^ 64) (drop a ws) ≡ (X * 2 ^ 64 + u) * 2 ^ 64 + w = ap (joined (2 ^ 64)) (drop_more ws a 0 l' ∙ ap (λ z. w ∷ z) (drop_more ws (a + 1) 0 l)) in
+      let b : f % 64 ≤ 64 = omega arith in
+      sym (ap (λ x. x % 2 ^ 64) (from-word ws f below) ∙ ap (λ x. x / 2 ^ (f % 64) % 2 ^ 64) e ∙ two-words X u w (f % 64) b (s a))
+
+  pub word_fits : f / 64 + 1 < length ws → get_or ws (f / 64) 0 / 2 ^ (f % 64) + get_or ws (f / 64 + 1) 0 * 2 ^ (64 - f % 64) % 2 ^ 64 < 2 ^ 64
+  word_fits l = let e = word_two l in let m = mod-lt (joined (2 ^ 64) ws / 2 ^ f) (pow_pos 64) in omega (arith, e, m)

@@ -141,15 +141,29 @@ own d c cs ws n k r e l =
     let q = le-leb (length c.rows) (64 * sample_count (length c.rows)) (subst (λ (z : ℕ). z ≤ 64 * sample_count z) r l') in
     record { same = ap (λ b. record { kind = c.kind; rows = sample_by b d c.rows }) q; cells = refl; words = refl }
 
+sampled-rows : (d : Source) → Within d → (rs : List Row) (n k : ℕ) → n ≡ length rs → k ≡ sample_count n → 64 * k < n → length (sample_rows d rs) ≡ 64 * k
+sampled-rows d w rs n k r e l =
+    let t : k ≡ sample_count (length rs) = e ∙ ap sample_count r in
+    many (length (sample_rows d rs)) n k (sample-length d w rs ∙ (λ i. min (sym r i) (64 * sym t i))) l
+  where
+    many : (s n k : ℕ) → s ≡ min n (64 * k) → 64 * k < n → s ≡ 64 * k
+    many s n k a b = omega arith
+
+pub sampled-words : (d : Source) → Within d → (rs : List Row) (n k : ℕ) → n ≡ length rs → k ≡ sample_count n → 64 * k < n → length (presence (sample_rows d rs)) ≡ k
+sampled-words d w rs n k r e l =
+    let S = sample_rows d rs in
+    length_digits (2 ^ 64) (words_for (length S)) (joined 2 (bits S)) ∙ ap words_for (sampled-rows d w rs n k r e l) ∙ whole k
+  where
+    whole : (k : ℕ) → words_for (64 * k) ≡ k
+    whole k = omega arith
+
 pub drawn-into : (d : Source) → Within d → (c : Column) (cs ws cs' ws' : List ℕ) (n k : ℕ) → Clean c → n ≡ length c.rows → k ≡ sample_count n → 64 * k < n
     → cs' ≡ written (cells (sample_rows d c.rows)) cs → ws' ≡ written (presence (sample_rows d c.rows)) ws → Drawn d c cs ws cs' ws' (64 * k)
 drawn-into d w c cs ws cs' ws' n k h r e l p q =
     let S = sample_rows d c.rows in
-    let t : k ≡ sample_count (length c.rows) = e ∙ ap sample_count r in
-    let len : length S ≡ 64 * k = many (length S) n k (sample-length d w c.rows ∙ (λ i. min (sym r i) (64 * sym t i))) l in
+    let len = sampled-rows d w c.rows n k r e l in
     let lc : 64 * k ≡ length (cells S) = sym (length-cells S ∙ len) in
-    let lw : 64 * k / 64 ≡ length (presence S) =
-    whole k ∙ sym (length_digits (2 ^ 64) (words_for (length S)) (joined 2 (bits S)) ∙ ap words_for len) in
+    let lw : 64 * k / 64 ≡ length (presence S) = whole k ∙ sym (sampled-words d w c.rows n k r e l) in
     let pc : take (64 * k) cs' ≡ cells S = ap (λ z. take z cs') lc ∙ ap (take (length (cells S))) p ∙ take-written (cells S) cs in
     let pw : take (64 * k / 64) ws' ≡ presence S = ap (λ z. take z ws') lw ∙ ap (take (length (presence S))) q ∙ take-written (presence S) ws in
     record {
@@ -161,8 +175,5 @@ drawn-into d w c cs ws cs' ws' n k h r e l p q =
       member = sample-of-rows d c.rows;
     }
   where
-    many : (s n k : ℕ) → s ≡ min n (64 * k) → 64 * k < n → s ≡ 64 * k
-    many s n k a b = omega arith
-
-    whole : (k : ℕ) → 64 * k / 64 ≡ words_for (64 * k)
+    whole : (k : ℕ) → 64 * k / 64 ≡ k
     whole k = omega arith

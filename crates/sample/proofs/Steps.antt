@@ -1,13 +1,12 @@
 -- One stratum more: what is written and what is left to draw.
 use Rattle.std.proofs.Common.{◌≡◌, ℕ, zero, suc, ◌+◌, ◌-◌, ◌*◌, ◌/◌, ◌%◌, ◌^◌, ◌<◌, ◌≤◌, false, leb, List, [], ◌∷◌, ◌++◌, length, get_or, take, drop, set, sym, ap, ◌∙◌, subst, add-one, arith, length-drop, length-take}
 use borrow.Rule.Slice.PartMut.{put_mid}
-use Rattle.std.proofs.lemmas.List.{drop_more, drop_all, length-map, map-append}
-use Rattle.std.proofs.lemmas.Bool.{lt-leb, leb-true}
-use Rattle.packing.specs.Packing.{joined, written_at}
+use Rattle.std.proofs.lemmas.List.{append-nil, drop_more, drop_all, length-map, map-append}
+use Rattle.std.proofs.lemmas.Bool.{lt-leb}
+use Rattle.packing.specs.Packing.{joined, written, written_at}
 use Rattle.packing.proofs.Written.{written_at-none, written_at-one, written_at-++}
-use Rattle.packing.proofs.Digits.{length_digits}
 use Rattle.column.specs.declared.views.View.{View}
-use Rattle.column.specs.Columns.{Row, Offer, CleanView, cell_of, cells, bits, presence, words_for, offer_seen, seen}
+use Rattle.column.specs.Columns.{Row, Offer, CleanView, cell_of, cells, bits, presence, offer_seen, seen}
 use Rattle.column.proofs.RowLaws.{length-offered}
 use Rattle.sample.specs.Draws.{Bounds, Source, Within}
 use Rattle.sample.specs.Samples.{sample_count, strata, seed, bounds_of, drawn, sample_by, sample_rows}
@@ -30,14 +29,15 @@ rest_more d ps i rs h =
     ap (λ z. drawn d (asked ps i) z rs) (drop_more ps i (0, 0) h)
     ∙ ap (λ z. take 64 (drop (d seed (bounds_of (get_or ps i (0, 0))) (asked ps i)) rs) ++ drawn d z (drop (i + 1) ps) rs) (ap (asked ps) (sym (add-one i)))
 
--- a draw leaves room for 64 rows
-pub draw-room : (d : Source) → Within d → (n k i : ℕ) (bs : List Bounds) (f : ℕ) → i < k → 64 * k ≤ n → f ≡ d seed (bounds_of (stratum_at n k i)) bs → f + 64 ≤ n
-draw-room d w n k i bs f h l e =
+-- a draw from a stratum's bounds leaves room for 64 rows
+pub draw-room : (d : Source) → Within d → (n k i : ℕ) (bs : List Bounds) (p : ℕ × ℕ) (f : ℕ) → i < k → 64 * k ≤ n → p ≡ stratum_at n k i → f ≡ d seed (bounds_of p) bs → f + 64 ≤ n
+draw-room d w n k i bs p f h l q e =
     let a = wide n k i h l in
     let b = ends n k i h in
     let o : (stratum_at n k i).0 ≤ (stratum_at n k i).1 - 64 = omega arith in
     let t = w seed (bounds_of (stratum_at n k i)) bs o in
-    omega arith
+    let g = e ∙ ap (λ z. d seed (bounds_of z) bs) q in
+    omega (arith, t, g, b, a)
 
 block-length : (rs : List Row) (f : ℕ) → f + 64 ≤ length rs → length (take 64 (drop f rs)) ≡ 64
 block-length rs f h = let a = length-take 64 (drop f rs) in let b = length-drop f rs in omega arith
@@ -86,6 +86,13 @@ put_is at f out cs part h e =
     let l : 64 ≡ length (take 64 (drop f cs)) = omega arith in
     ap (λ z. put_mid at z out part) (m ∙ l) ∙ ap (λ z. put_mid at (length (take 64 (drop f cs))) out z) s
 
+-- the front of a lent place, all of it written
+pub front_is : (new part out : List ℕ) (k : ℕ) → length part ≡ k → new ≡ written part (take k out) → new ++ drop k out ≡ written part out
+front_is new part out k e q =
+    let t = length-take k out in
+    let d : drop (length part) (take k out) ≡ [] = drop_all (length part) (take k out) (omega arith) in
+    ap (λ z. z ++ drop k out) (q ∙ ap (λ z. part ++ z) d ∙ append-nil part) ∙ ap (λ z. part ++ drop z out) (sym e)
+
 -- all strata are drawn
 rest-none : (d : Source) (ps : List (ℕ × ℕ)) (i : ℕ) (rs : List Row) → length ps ≤ i → rest d ps i rs ≡ []
 rest-none d ps i rs h = ap (λ z. drawn d (asked ps i) z rs) (drop_all i ps h)
@@ -112,9 +119,6 @@ after_more after ps i p s e m = m ∙ ap (λ q. after seed (bounds_of q ∷ aske
 pub view-rows : (v : View) → length v.cells.now ≡ length (seen v).rows
 view-rows v = sym (length-offered (offer_seen v))
 
-pub view-few : (v : View) → CleanView v → length v.cells.now ≤ 131072
-view-few v h = let a = leb-true (length (seen v).rows) 131072 h.clean.1 in let e = view-rows v in omega (arith, a, e)
-
 pub view-cells : (v : View) → CleanView v → v.cells.now ≡ cells (seen v).rows
 view-cells v h = ap (λ (o : Offer). o.cells) h.stored
 
@@ -122,11 +126,8 @@ pub view-words : (v : View) → CleanView v → v.words.now ≡ presence (seen v
 view-words v h = ap (λ (o : Offer). o.words) h.stored
 
 -- a word for each 64 rows
-pub words-room : (v : View) → CleanView v → (f : ℕ) → f + 64 ≤ length v.cells.now → f + 64 ≤ 64 * length v.words.now
-words-room v h f l =
-    let e = view-rows v in
-    let w : length v.words.now ≡ words_for (length (seen v).rows) = ap length (view-words v h) ∙ length_digits (2 ^ 64) (words_for (length (seen v).rows)) (joined 2 (bits (seen v).rows)) in
-    omega (arith, e, w)
+pub words-room : (v : View) → (f : ℕ) → f + 64 ≤ length v.cells.now → f + 64 ≤ 64 * length v.words.now
+words-room v f l = omega (arith, v.worded)
 
 pub word-is : (v : View) → CleanView v → (f w : ℕ) → w ≡ joined (2 ^ 64) v.words.now / 2 ^ f % 2 ^ 64 → w ≡ joined 2 (bits (take 64 (drop f (seen v).rows)))
 word-is v h f w e =

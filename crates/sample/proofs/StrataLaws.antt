@@ -24,9 +24,9 @@ pub strata-at : (n k i : ℕ) → i < k → stratum_at n k i ≡ (i * (n / k) + 
 strata-at n zero i h = absurd (omega arith)
 strata-at n (suc m) i h = from_at (suc m) (n % suc m) (n / suc m) 0 i h ∙ pair (omega arith) (omega arith)
 
-pub stratum-is : (n k i a b : ℕ) → i < k → a ≡ i * (n / k) + min i (n % k) → b ≡ suc i * (n / k) + min (suc i) (n % k)
+pub stratum_is : (n k i a b : ℕ) → i < k → a ≡ i * (n / k) + min i (n % k) → b ≡ suc i * (n / k) + min (suc i) (n % k)
     → ◌≡◌ {A = ℕ × ℕ} (a, b) (stratum_at n k i)
-stratum-is n k i a b h e f = pair e f ∙ sym (strata-at n k i h)
+stratum_is n k i a b h e f = pair e f ∙ sym (strata-at n k i h)
 
 pub length_from : (m l s a : ℕ) → length (strata_from m l s a) ≡ m
 length_from zero l s a = refl
@@ -62,9 +62,9 @@ ends n k i h =
     let g = suc-mul i (n / k) in
     omega arith
 
-pub strata-cover : (n k i : ℕ) → i < k → 64 * k ≤ n → Covers n k
-strata-cover n zero i h l = absurd (omega arith)
-strata-cover n (suc m) i h l =
+pub strata_cover : (n k i : ℕ) → i < k → 64 * k ≤ n → Covers n k
+strata_cover n zero i h l = absurd (omega arith)
+strata_cover n (suc m) i h l =
     let p = zero-lt-suc m in
     record {
       count = length-strata n (suc m);

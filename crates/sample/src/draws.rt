@@ -10,6 +10,7 @@ pub trait Draws: Sized {
     // the source that began at a seed, after draws within these bounds, the newest first
     ghost after: { ℕ → List Bounds → Self };
 
+    // Not `From<u64>`, whose clause could not name `after`.
     fn begin(seed: u64) -> Self
         ensures { result ≡ after seed [] };
 
@@ -21,6 +22,12 @@ pub trait Draws: Sized {
 
     ghost within: { Within source };
 }
+
+// What a state is multiplied by.
+const MULTIPLIER: u64 = 6364136223846793005;
+
+// What is then added.
+const INCREMENT: u64 = 1442695040888963407;
 
 // A linear congruential generator.
 #[derive(Drop)]
@@ -40,10 +47,7 @@ impl Draws for Mill {
     }
 
     fn draw(&mut self, low: u64, high: u64) -> u64 {
-        self.state = self
-            .state
-            .wrapping_mul(6364136223846793005)
-            .wrapping_add(1442695040888963407);
+        self.state = self.state.wrapping_mul(MULTIPLIER).wrapping_add(INCREMENT);
         low + (self.state >> 33) % (high - low + 1)
     }
 }

@@ -1,55 +1,54 @@
 // The sample of a column.
 ghost use Rattle.std.specs.Prelude.{◌≡◌, ◌+◌, ◌*◌, ◌/◌, ◌%◌, ◌^◌, ◌<◌, ◌≤◌, length, take, drop};
-ghost use Rattle.column.specs.Columns.{CleanView, cells as cells_of, presence, seen};
+ghost use Rattle.column.specs.Columns.{cells as cells_of, presence, seen};
 ghost use Rattle.packing.specs.Packing.{joined, written, written_at};
 ghost use Rattle.sample.specs.Samples.{drawn_rows, sample_count, sample_rows};
 ghost use Rattle.sample.specs.Laws.{Sampled};
 
 use crate::draws::Draws;
 use crate::strata::{SAMPLE_SIZE, sample_count, stratum};
-use column::views::View;
+use column::cleaned::Cleaned;
 
 const SAMPLE_SEED: u64 = 1234567890;
 
 // Writes the sample of a cleaned column, its cells and its presence words, and answers its rows; `None`, and nothing is written, where
 // the column is its own sample.
 pub fn sample<D: Draws + Drop>(
-    view: View<'_>,
+    array: Cleaned<'_>,
     cells: &mut [u64],
     words: &mut [u64],
 ) -> Option<usize>
-    requires clean { CleanView view }
-    requires cells_room { 64 * sample_count (length view.cells.now) ≤ length cells.old }
-    requires words_room { sample_count (length view.cells.now) ≤ length words.old }
-    ensures rows { result ≡ drawn_rows (length view.entry.cells.now) }
-    ensures sampled { Sampled D.Draws.source (seen view.entry) cells.old words.old cells.new words.new result }
+    requires cells_room { 64 * sample_count (length array.view.cells.now) ≤ length cells.old }
+    requires words_room { sample_count (length array.view.cells.now) ≤ length words.old }
+    ensures rows { result ≡ drawn_rows (length array.entry.view.cells.now) }
+    ensures sampled { Sampled D.Draws.source (seen array.entry.view) cells.old words.old cells.new words.new result }
 {
-    let rows = view.cells.len();
+    let rows = array.view.cells.len();
     let count = sample_count(rows);
     if rows <= SAMPLE_SIZE * count {
         return None;
     }
-    draw_rows::<D>(view, count, cells, words);
+    draw_rows::<D>(array, cells, &mut words[..count]);
     Some(SAMPLE_SIZE * count)
 }
 
 // Writes 64 rows of each stratum: their cells and one presence word.
-fn draw_rows<D: Draws + Drop>(view: View<'_>, count: usize, cells: &mut [u64], words: &mut [u64])
-    requires clean { CleanView view }
-    requires counted { count ≡ sample_count (length view.cells.now) }
-    requires large { 64 * count < length view.cells.now }
-    requires cells_room { 64 * count ≤ length cells.old }
-    requires words_room { count ≤ length words.old }
-    ensures cells { cells.new ≡ written (cells_of (sample_rows D.Draws.source (seen view.entry).rows)) cells.old }
-    ensures words { words.new ≡ written (presence (sample_rows D.Draws.source (seen view.entry).rows)) words.old }
+fn draw_rows<D: Draws + Drop>(array: Cleaned<'_>, cells: &mut [u64], words: &mut [u64])
+    requires counted { length words.old ≡ sample_count (length array.view.cells.now) }
+    requires large { 64 * length words.old < length array.view.cells.now }
+    requires cells_room { 64 * length words.old ≤ length cells.old }
+    ensures cells { cells.new ≡ written (cells_of (sample_rows D.Draws.source (seen array.entry.view).rows)) cells.old }
+    ensures words { words.new ≡ written (presence (sample_rows D.Draws.source (seen array.entry.view).rows)) words.old }
 {
-    let rows = view.cells.len();
+    let rows = array.view.cells.len();
+    let count = words.len();
     let mut source = D::begin(SAMPLE_SEED);
-    for i in 0..count {
+    for (i, word) in words.iter_mut().enumerate() {
         let (start, stop) = stratum(rows, count, i);
         let from = source.draw(start as u64, (stop - SAMPLE_SIZE) as u64) as usize;
-        put_cells(view.cells, from, cells, SAMPLE_SIZE * i);
-        words[i] = word_from(view.words, from);
+        // Not `chunks_exact_mut` beside the words: a proof would know the chunks' lengths alone, and not what was written.
+        put_cells(array.view.cells, from, cells, SAMPLE_SIZE * i);
+        *word = word_from(array.view.words, from);
     }
 }
 
@@ -63,6 +62,7 @@ fn put_cells(cells: &[u64], from: usize, out: &mut [u64], at: usize)
 }
 
 // The 64 presence bits from row `from` on.
+#[tactic(auto, using(crate::proofs::Joins::word_whole, crate::proofs::Joins::word_two, crate::proofs::Joins::word_fits))]
 fn word_from(words: &[u64], from: usize) -> u64
     requires within { from + 64 ≤ 64 * length words.now }
     ensures { result ≡ joined (2 ^ 64) words.now / 2 ^ from % 2 ^ 64 }

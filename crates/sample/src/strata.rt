@@ -11,11 +11,11 @@ pub fn sample_count(rows: usize) -> usize
     requires few { rows ≤ 131072 }
     ensures { result ≡ sample_count rows }
 {
-    let count = (rows / 100 / SAMPLE_SIZE + 15) / 16 * 16;
-    count.max(16)
+    (rows / 100 / SAMPLE_SIZE).next_multiple_of(16).max(16)
 }
 
 // Stratum `i` of `count`: its first row and the row after its last.
+#[tactic(auto, using(crate::proofs::StrataLaws::room, crate::proofs::StrataLaws::stratum_is))]
 pub fn stratum(rows: usize, count: usize, i: usize) -> (usize, usize)
     requires within { i < count }
     ensures bounds { result ≡ slice_index_or (strata_of rows count) i (0, 0) }

@@ -1,5 +1,3 @@
 pub mod ChildLaws
-pub mod HistoryLaws
 pub mod Ratios
-pub mod Searches
 pub mod StoredLaws

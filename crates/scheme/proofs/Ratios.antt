@@ -5,48 +5,36 @@ use lib.Ieee.{Float, nan, inf, fin, binary64, lt, le, eq, of_bits, of_fields, od
 use lib.Ieee.Positive.{num, den, den_pos, through}
 use lib.Count.{count_trailing_zeros}
 use Rattle.std.specs.Float.{float_is_finite, is_subnormal, float_one, float_with_sign}
-use Rattle.std.proofs.lemmas.Bool.{ltb-true, ltb-false, lt-ltb, le-ltb, eqb-true, eq-eqb}
-use Rattle.scheme.specs.Scores.{above, same, valid, Ordered, Counted, Divided, Ranked, RatioLaws}
+use Rattle.std.proofs.lemmas.Bool.{and_parts, and_right, ltb-true, ltb-false, lt-ltb, le-ltb, eqb-true, eq-eqb}
+use Rattle.scheme.specs.Scores.{above, same, valid, Ordered, Counted, Divided, Ranked, Scored, Marks, RatioLaws}
 
 -- the bits of 1.0
-pub one-bits : of_bits binary64 4607182418800017408 ≡ float_one
+pub one_bits : of_bits binary64 4607182418800017408 ≡ float_one
 unfolding of_bits of_fields odd count_trailing_zeros
-one-bits = refl
+one_bits = refl
 
 no : {X : Type 0} → false ≡ true → X
 no e = absurd (true≢false (sym e))
-
-and_left : (a b : Bool) → (a && b) ≡ true → a ≡ true
-and_left true b e = refl
-and_left false b e = e
-
-and_right : (a b : Bool) → (a && b) ≡ true → b ≡ true
-and_right true b e = e
-and_right false b e = no e
-
-and-not : (a b : Bool) → b ≡ false → (a && b) ≡ false
-and-not true b e = e
-and-not false b e = refl
 
 -- ---- what valid says
 
 finite-of : (x : Float) → valid x ≡ true → float_is_finite x ≡ true
 unfolding valid
-finite-of x e = and_left (float_is_finite x) (not (is_subnormal binary64 x)) (and_left (float_is_finite x && not (is_subnormal binary64 x)) (lt float_one x) e)
+finite-of x e = (and_parts (float_is_finite x) (not (is_subnormal binary64 x)) (and_parts (float_is_finite x && not (is_subnormal binary64 x)) (lt float_one x) e).0).0
 
 over-one : (x : Float) → valid x ≡ true → lt float_one x ≡ true
 unfolding valid
-over-one x e = and_right (float_is_finite x && not (is_subnormal binary64 x)) (lt float_one x) e
+over-one x e = (and_parts (float_is_finite x && not (is_subnormal binary64 x)) (lt float_one x) e).1
 
 valid-by : (x : Float) (a b c : Bool) → float_is_finite x ≡ a → is_subnormal binary64 x ≡ b → lt float_one x ≡ c → valid x ≡ ((a && not b) && c)
 unfolding valid
 valid-by x a b c p q r = ap₂ (λ u v. (u && not v) && lt float_one x) p q ∙ ap (λ w. (a && not b) && w) r
 
 not-over : (x : Float) → lt float_one x ≡ false → valid x ≡ false
-not-over x e = valid-by x (float_is_finite x) (is_subnormal binary64 x) false refl refl e ∙ and-not (float_is_finite x && not (is_subnormal binary64 x)) false refl
+not-over x e = valid-by x (float_is_finite x) (is_subnormal binary64 x) false refl refl e ∙ and_right (float_is_finite x && not (is_subnormal binary64 x)) false refl
 
 not-subnormal : (x : Float) → is_subnormal binary64 x ≡ true → valid x ≡ false
-not-subnormal x e = valid-by x (float_is_finite x) true (lt float_one x) refl e refl ∙ ap (λ b. b && lt float_one x) (and-not (float_is_finite x) false refl)
+not-subnormal x e = valid-by x (float_is_finite x) true (lt float_one x) refl e refl ∙ ap (λ b. b && lt float_one x) (and_right (float_is_finite x) false refl)
 
 not_finite : (x : Float) → float_is_finite x ≡ false → valid x ≡ false
 not_finite x e = valid-by x false (is_subnormal binary64 x) (lt float_one x) e refl refl
@@ -142,7 +130,7 @@ le-of-tests a b c e = go (ltb a b) refl
   where
     go : (t : Bool) → ltb a b ≡ t → a ≤ b
     go true g = le_of_lt (ltb-true a b g)
-    go false g = le_of_eq (eqb-true a b (and_left (eqb a b) c (ap (λ t. t || (eqb a b && c)) (sym g) ∙ e)))
+    go false g = le_of_eq (eqb-true a b (and_parts (eqb a b) c (ap (λ t. t || (eqb a b && c)) (sym g) ∙ e)).0)
 
 le-one : (x : Float) → le x float_one ≡ true → lt float_one x ≡ false
 unfolding le lt eq
@@ -198,5 +186,21 @@ ranked = record {
   beats_nan = λ x. refl;
 }
 
+scored : Scored
+unfolding div of_int round lt of_bits of_fields odd count_trailing_zeros
+scored = record { halved = refl; greater = refl; less = refl; equal = refl }
+
+under_marks : Marks
+unfolding div of_int round lt
+under_marks = record {
+  greater = refl;
+  equal = refl;
+  less = refl;
+  zero = λ x. refl;
+  skip = λ s. refl;
+  always = λ s. refl;
+  unmarked = λ v. refl;
+}
+
 pub ratio-laws : RatioLaws
-ratio-laws = record { ordered = ordered; counted = counted; divided = divided; ranked = ranked }
+ratio-laws = record { ordered = ordered; counted = counted; divided = divided; ranked = ranked; scored = scored; marks = under_marks }

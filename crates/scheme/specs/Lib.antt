@@ -1,3 +1,5 @@
+pub mod Asked
+pub mod Bounded
 pub mod Scores
 pub mod Rules
 pub mod Meaning

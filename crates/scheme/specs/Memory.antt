@@ -1,15 +1,17 @@
 -- How lent memory holds what a scheme is asked about and what it gives.
-use Rattle.std.specs.Prelude.{◌≡◌, ℕ, ◌+◌, ◌*◌, ◌≤◌, Bool, List, [], ◌∷◌, map, length, take, Ok, Err, Result}
+use Rattle.std.specs.Prelude.{◌≡◌, ℕ, ◌+◌, ◌*◌, ◌≤◌, List, [], ◌∷◌, map, length, take, Ok, Err, Result}
 use Rattle.column.specs.Kinds.{number_of}
-use Rattle.column.specs.Columns.{Column, Offer, offer_of, cleaned, seen, Sound, words_for}
-use Rattle.stats.specs.Stats.{Stats, stats}
+use Rattle.column.specs.Columns.{Column, Offer, offer_of, cleaned, seen, words_for}
+use Rattle.stats.specs.Stats.{Stats}
 use Rattle.stats.specs.Seen.{stats_seen, Holds}
-use Rattle.scheme.specs.declared.ctx.CascadeHistory.{CascadeHistory}
+use Rattle.scheme.specs.Asked.{MeasuredBy}
+use Rattle.scheme.specs.Bounded.{Bounded}
 use Rattle.scheme.specs.declared.ctx.CompressorContext.{CompressorContext}
-use Rattle.scheme.specs.declared.scheme.ArrayAndStats.{ArrayAndStats}
+use Rattle.scheme.specs.declared.asked.ArrayAndStats.{ArrayAndStats}
 use Rattle.scheme.specs.declared.scheme.ChildShape.{ChildShape}
+use Rattle.scheme.specs.declared.scheme.RowRefused.{RowRefused}
 use Rattle.scheme.specs.declared.scheme.Shape.{Shape}
-use Rattle.scheme.specs.declared.scheme.Stored.{Stored}
+use Rattle.scheme.specs.declared.stored.Stored.{Stored}
 use Rattle.scheme.specs.Meaning.{History, Parts}
 
 -- the words that a scheme may use for n rows
@@ -17,8 +19,8 @@ abbrev pub spare : ℕ → ℕ
 spare n = 4 * n + 256
 
 -- the history of a context
-abbrev pub entries_of : CascadeHistory → History
-entries_of h = take h.len h.places
+abbrev pub entries_of : Bounded (ℕ × ℕ) → History
+entries_of h = h.items
 
 abbrev pub history_of : CompressorContext → History
 history_of c = entries_of c.cascade_history
@@ -29,7 +31,7 @@ stats_in d = stats_seen d.stats.now d.table.now
 
 -- they are the column's own, made with or without distinct counts, and the table holds the pairs
 abbrev pub Measured : ArrayAndStats → Type 0
-Measured d = (want : Bool) × (stats_in d ≡ stats want (seen d.array)) × Holds d.stats.now d.table.now
+Measured d = MeasuredBy d.array.view d.stats.now d.table.now × Holds d.stats.now d.table.now
 
 -- lent places that the children of n rows fit into
 pub record Room (n : ℕ) (c0 w0 c1 w1 m : List ℕ) : Type 0 where
@@ -62,8 +64,8 @@ abbrev pub child_seen : ChildShape → List ℕ → List ℕ → ℕ × Offer
 child_seen s cs ws = (s.rows, record { kind = number_of s.kind; cells = take s.rows cs; words = take (words_for s.rows) ws })
 
 -- what the answer and the lent places say, of a scheme with that many children
-abbrev pub shape_seen : ℕ → Result Shape ℕ → List ℕ → List ℕ → List ℕ → List ℕ → Result Outline ℕ
-shape_seen n (Err r) c0 w0 c1 w1 = Err r
+abbrev pub shape_seen : ℕ → Result Shape RowRefused → List ℕ → List ℕ → List ℕ → List ℕ → Result Outline ℕ
+shape_seen n (Err e) c0 w0 c1 w1 = Err e.row
 shape_seen n (Ok s) c0 w0 c1 w1 =
     Ok (record {
       payload = s.payload;
@@ -91,13 +93,8 @@ parts_seen n s = record {
 abbrev pub held : ℕ → List ℕ → List ℕ → Column
 held k cs ws = cleaned (record { kind = k; cells = cs; words = ws })
 
--- children of any rows, no more than the column has
+-- room for as many rows as the node has
 pub record Joinable (s : Stored) (m cs ws : List ℕ) : Type 0 where
-  pub few : s.rows ≤ 131072
-  pub short0 : length s.child0.cells.now ≤ s.rows
-  pub short1 : length s.child1.cells.now ≤ s.rows
-  pub child0 : Sound s.child0
-  pub child1 : Sound s.child1
   pub cells : length cs ≡ s.rows
   pub words : length ws ≡ words_for s.rows
   pub spared : spare s.rows ≤ length m

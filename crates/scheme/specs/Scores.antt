@@ -100,8 +100,28 @@ pub record Ranked : Type 0 where
   pub nan_beats : (x : Float) → beats_score (FiniteCompression nan) (FiniteCompression x) ≡ false
   pub beats_nan : (x : Float) → beats_score (FiniteCompression x) (FiniteCompression nan) ≡ false
 
+-- scores worked out: 100 bytes become 50, which beats 3 that become 2, and is not beaten by it nor by 2 that become 1
+pub record Scored : Type 0 where
+  pub halved : score_of 100 50 ≡ FiniteCompression (from_bits binary64 0x4000_0000_0000_0000)
+  pub greater : beats_score (score_of 100 50) (score_of 3 2) ≡ true
+  pub less : beats_score (score_of 3 2) (score_of 100 50) ≡ false
+  pub equal : beats_score (score_of 2 1) (score_of 100 50) ≡ false
+
+-- verdicts under a mark: above 1.5 a ratio stays; at it or below, it becomes Skip
+pub record Marks : Type 0 where
+  pub greater : marked (Some (score_of 3 2)) (Ratio (ratio_of 2 1)) ≡ Ratio (ratio_of 2 1)
+  pub equal : marked (Some (score_of 3 2)) (Ratio (ratio_of 6 4)) ≡ Skip
+  pub less : marked (Some (score_of 3 2)) (Ratio (ratio_of 5 4)) ≡ Skip
+  -- nothing else changes
+  pub zero : (x : Float) → marked (Some ZeroBytes) (Ratio x) ≡ Ratio x
+  pub skip : (s : EstimateScore) → marked (Some s) Skip ≡ Skip
+  pub always : (s : EstimateScore) → marked (Some s) AlwaysUse ≡ AlwaysUse
+  pub unmarked : (v : EstimateVerdict) → marked None v ≡ v
+
 pub record RatioLaws : Type 0 where
   pub ordered : Ordered
   pub counted : Counted
   pub divided : Divided
   pub ranked : Ranked
+  pub scored : Scored
+  pub marks : Marks

@@ -9,12 +9,10 @@ use column::kinds::Kind;
 pub fn narrowest(n: usize) -> Kind
     ensures { number_of result ≡ narrow n }
 {
-    if n < 256 {
-        Kind::U8
-    } else if n < 65_536 {
-        Kind::U16
-    } else {
-        Kind::U32
+    match n {
+        0..256 => Kind::U8,
+        256..65_536 => Kind::U16,
+        _ => Kind::U32,
     }
 }
 
@@ -22,5 +20,5 @@ pub fn narrowest(n: usize) -> Kind
 pub fn value_at(values: &[u64], i: usize) -> u64
     ensures { result ≡ slice_index values.now i }
 {
-    if i < values.len() { values[i] } else { 0 }
+    values.get(i).copied().unwrap_or(0)
 }

@@ -1,8 +1,6 @@
 // What a scheme answers when it is asked how well it would do.
-ghost use Rattle.std.specs.Prelude.{◌≡◌, ℕ, ◌^◌, ◌<◌, ◌≤◌, not, ◌&&◌, from_bits};
-ghost use Rattle.scheme.specs.Scores.{beats_score, finite_ratio, ratio_of, RatioLaws, score_of, score_valid};
-ghost use Rattle.std.specs.Float.{float_is_finite, is_subnormal, binary64};
-ghost use Rattle.std.specs.Float.Ieee.{lt};
+ghost use Rattle.std.specs.Prelude.{◌≡◌, ℕ};
+ghost use Rattle.scheme.specs.Scores.{beats_score, finite_ratio, marked, ratio_of, RatioLaws, score_of, score_valid, valid};
 
 #[derive(Clone, Copy)]
 pub enum CompressionEstimate {
@@ -29,11 +27,25 @@ pub enum DeferredEstimate {
     Callback,
 }
 
+// The ported crate's own name and shape; an `Option` would not say why there is no ratio.
 #[derive(Clone, Copy)]
 pub enum EstimateScore {
     FiniteCompression(f64),
     // nothing was left of the sample: no ratio
     ZeroBytes,
+}
+
+impl EstimateVerdict {
+    // Under a mark, a ratio not above it becomes Skip; all else is as unmarked.
+    pub fn under_mark(self, mark: Option<EstimateScore>) -> EstimateVerdict
+        ensures { result ≡ marked mark self }
+    {
+        match (self, mark) {
+            (EstimateVerdict::Ratio(x), Some(score))
+                if !EstimateScore::FiniteCompression(x).beats(score) => { EstimateVerdict::Skip }
+            _ => self,
+        }
+    }
 }
 
 // `a` over `b`, divided once.
@@ -43,10 +55,11 @@ pub fn ratio(a: u64, b: u64) -> f64
     std::num::nearest_u64_to_f64(a) / std::num::nearest_u64_to_f64(b)
 }
 
+#[tactic(auto, using(crate::proofs::Ratios::one_bits), unfolding(crate::specs::Scores::valid))]
 fn is_valid_ratio(x: f64) -> bool
-    ensures { result ≡ ((float_is_finite x && not (is_subnormal binary64 x)) && lt (from_bits binary64 0x3FF0_0000_0000_0000) x) }
+    ensures { result ≡ valid x }
 {
-    x.is_finite() & !x.is_subnormal() & (x > 1.0)
+    x.is_finite() && !x.is_subnormal() && x > 1.0
 }
 
 impl EstimateScore {
@@ -74,12 +87,10 @@ impl EstimateScore {
     pub fn is_valid(self) -> bool
         ensures { result ≡ score_valid self }
     {
-        match self {
-            EstimateScore::FiniteCompression(x) => is_valid_ratio(x),
-            EstimateScore::ZeroBytes => false,
-        }
+        self.finite_ratio().is_some_and(is_valid_ratio)
     }
 
+    // Written out: a derived order would hang on the order in which the variants stand.
     pub fn beats(self, other: EstimateScore) -> bool
         ensures { result ≡ beats_score self other }
     {
@@ -91,7 +102,7 @@ impl EstimateScore {
     }
 }
 
-// How valid ratios are ordered, and which ratios are valid.
+// How valid ratios are ordered, which ratios are valid, and cases worked out.
 pub fn order_of_ratios()
     ensures { RatioLaws }
 {}

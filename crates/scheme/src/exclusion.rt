@@ -1,6 +1,6 @@
 // Rules that keep a scheme out of parts of a tree.
 ghost use Rattle.std.specs.Prelude.{◌≡◌, ℕ};
-ghost use Rattle.scheme.specs.Rules.{children_seen, contains as contains_child, member};
+ghost use Rattle.scheme.specs.Rules.{children_seen, contains as contains_child};
 
 // Which children a rule speaks of.
 #[derive(Clone, Copy)]
@@ -10,6 +10,7 @@ pub enum ChildSelection<'a> {
     Many(&'a [usize]),
 }
 
+// The two rules are types apart, as in the ported crate, so that neither can stand in the other's table.
 // Push rule: of the scheme that declares it, no descendant below these children may be `excluded`.
 #[derive(Clone, Copy)]
 pub struct DescendantExclusion<'a> {
@@ -31,18 +32,7 @@ impl ChildSelection<'_> {
         match self {
             ChildSelection::All => true,
             ChildSelection::One(i) => *i == child,
-            ChildSelection::Many(is) => is_member(is, child),
+            ChildSelection::Many(is) => is.contains(&child),
         }
     }
-}
-
-fn is_member(is: &[usize], child: usize) -> bool
-    ensures { result ≡ member child is.now }
-{
-    for i in is {
-        if *i == child {
-            return true;
-        }
-    }
-    false
 }

@@ -1,52 +1,20 @@
 // A context, made at the root and handed down.
-ghost use Rattle.std.specs.Prelude.{◌≡◌, ◌+◌, ◌-◌, ◌<◌, ◌≤◌, true, false, [], ◌∷◌, ◌++◌, length, take};
-ghost use Rattle.scheme.specs.Memory.{entries_of, history_of};
+ghost use Rattle.std.specs.Prelude.{◌≡◌, ◌-◌, ◌<◌, ◌≤◌, true, false, [], ◌∷◌, ◌++◌, length};
+ghost use Rattle.scheme.specs.Memory.{history_of};
 
-use crate::ctx::{CascadeHistory, CompressorContext};
-
-impl CascadeHistory {
-    // The entries of the first `n` places.
-    fn first(&self, n: usize) -> &[(u8, usize)]
-        requires { n ≤ 8 }
-        ensures { result.now ≡ take n self.now.places }
-    {
-        &self.places[0..n]
-    }
-
-    fn count(&self) -> usize
-        ensures depth { result ≡ length (entries_of self.now) }
-        ensures len { result ≡ self.now.len }
-    {
-        self.len
-    }
-
-    fn with_entry(&self, id: u8, child: usize) -> CascadeHistory
-        requires { self.now.len < 8 }
-        ensures entries { entries_of result ≡ entries_of self.now ++ ((id, child) ∷ []) }
-        ensures len { result.len ≡ self.now.len + 1 }
-    {
-        let mut places = self.places;
-        let n = self.len;
-        places[n] = (id, child);
-        CascadeHistory { places, len: n + 1 }
-    }
-}
+use crate::bounded::Bounded;
+use crate::ctx::CompressorContext;
 
 impl CompressorContext {
     // At the root, with so many levels over the ground.
     pub fn new(levels: usize) -> CompressorContext
         ensures levels { result.allowed_cascading ≡ levels }
         ensures history { history_of result ≡ [] }
-        ensures len { result.cascade_history.len ≡ 0 }
         ensures sample { result.is_sample ≡ false }
     {
-        let cascade_history = CascadeHistory {
-            places: [(0, 0); 8],
-            len: 0,
-        };
         CompressorContext {
             allowed_cascading: levels,
-            cascade_history,
+            cascade_history: Bounded::new((0, 0)),
             is_sample: false,
         }
     }
@@ -59,17 +27,18 @@ impl CompressorContext {
 
     // (scheme, child) from the root down.
     pub fn cascade_history(&self) -> &[(u8, usize)]
-        ensures { result.now ≡ history_of self.now }
+        ensures history { result.now ≡ history_of self.now }
+        ensures few { length (history_of self.now) ≤ 8 }
     {
-        self.cascade_history.first(self.cascade_history.len)
+        self.cascade_history.as_slice()
     }
 
     // How many schemes stand above.
     pub fn cascade_depth(&self) -> usize
         ensures depth { result ≡ length (history_of self.now) }
-        ensures len { result ≡ self.now.cascade_history.len }
+        ensures few { result ≤ 8 }
     {
-        self.cascade_history.count()
+        self.cascade_history.len()
     }
 
     // The same place, in a sample.
@@ -77,26 +46,25 @@ impl CompressorContext {
         ensures { result ≡ record { allowed_cascading = self.allowed_cascading; cascade_history = self.cascade_history; is_sample = true } }
     {
         CompressorContext {
-            allowed_cascading: self.allowed_cascading,
-            cascade_history: self.cascade_history,
             is_sample: true,
+            ..self
         }
     }
 
     // The place of a scheme's child, a level further down.
     pub fn descend_with_scheme(self, id: u8, child: usize) -> CompressorContext
         requires levels { 0 < self.allowed_cascading }
-        requires few { self.cascade_history.len < 8 }
+        requires few { length (history_of self) < 8 }
         ensures levels { result.allowed_cascading ≡ self.allowed_cascading - 1 }
         ensures history { history_of result ≡ history_of self ++ ((id, child) ∷ []) }
-        ensures len { result.cascade_history.len ≡ self.cascade_history.len + 1 }
         ensures sample { result.is_sample ≡ self.is_sample }
     {
-        let cascade_history = self.cascade_history.with_entry(id, child);
+        let mut cascade_history = self.cascade_history;
+        cascade_history.push((id, child));
         CompressorContext {
             allowed_cascading: self.allowed_cascading - 1,
             cascade_history,
-            is_sample: self.is_sample,
+            ..self
         }
     }
 }

@@ -1,27 +1,20 @@
 // A scheme: a way to store a column.
-ghost use Rattle.std.specs.Prelude.{◌≡◌, ℕ, ◌+◌, ◌*◌, ◌<◌, ◌≤◌, true, length};
-ghost use Rattle.column.specs.Columns.{seen, Sound, CleanView};
+ghost use Rattle.std.specs.Prelude.{◌≡◌, ◌≤◌, true, length};
+ghost use Rattle.column.specs.Columns.{seen};
 ghost use Rattle.column.specs.Kinds.{number_of};
 ghost use Rattle.packing.specs.Packing.{written};
 ghost use Rattle.scheme.specs.Meaning.{Meaning, Keeps};
-ghost use Rattle.scheme.specs.Memory.{spare, history_of, stats_in, Measured, Room, outline, shape_seen, payload_in, parts_seen, held, Joinable};
+ghost use Rattle.scheme.specs.Memory.{spare, history_of, stats_in, Room, outline, shape_seen, payload_in, parts_seen, held, Joinable};
 ghost use Rattle.scheme.specs.Rules.{push_seen, pull_seen};
 
+pub use crate::asked::ArrayAndStats;
 use crate::ctx::CompressorContext;
 use crate::estimate::{CompressionEstimate, EstimateScore, EstimateVerdict};
 use crate::exclusion::{AncestorExclusion, DescendantExclusion};
+pub use crate::stored::Stored;
+use column::cleaned::Cleaned;
 use column::kinds::Kind;
-use column::views::View;
-use stats::integer::IntegerStats;
 use stats::options::GenerateStatsOptions;
-
-// A cleaned column with its statistics; the distinct values stand in `table`.
-#[derive(Clone, Copy)]
-pub struct ArrayAndStats<'a> {
-    pub array: View<'a>,
-    pub stats: &'a IntegerStats,
-    pub table: &'a [u64],
-}
 
 #[derive(Clone, Copy)]
 pub struct ChildShape {
@@ -39,22 +32,18 @@ pub struct Shape {
     pub child1: ChildShape,
 }
 
-// What a reader has of a node: its head's fields, its payload, and its children as they were read.
-#[derive(Clone, Copy)]
-pub struct Stored<'a> {
-    pub kind: Kind,
-    pub rows: usize,
-    pub payload: &'a [u8],
-    pub cell_bits: u8,
-    pub flag: u8,
-    pub child0: View<'a>,
-    pub child1: View<'a>,
+// The row at which a column's parts are refused.
+#[derive(Clone, Copy, PartialEq, Eq)]
+pub struct RowRefused {
+    pub row: u32,
 }
 
-// Every answer is that of the scheme's meaning, and every meaning keeps the laws.
+// Every answer is that of the scheme's meaning, and every meaning keeps the laws. No function has a default body: it would owe its clause for
+// every meaning.
 pub trait Scheme {
     ghost meaning: { Self → Meaning };
 
+    // A number and no enum: every scheme brings its own.
     fn id(&self) -> u8
         ensures { result ≡ (meaning self.now).id };
 
@@ -80,11 +69,8 @@ pub trait Scheme {
         ctx: &CompressorContext,
         mem: &mut [u64],
     ) -> CompressionEstimate
-        requires sound { Sound col.array }
-        requires clean { CleanView col.array }
-        requires measured { Measured col }
-        requires room { spare (length col.array.cells.now) ≤ length mem.old }
-        ensures { result ≡ (meaning self.now).answer (seen col.entry.array) (stats_in col.entry) (history_of ctx.now) ctx.now.is_sample };
+        requires room { spare (length col.array.view.cells.now) ≤ length mem.old }
+        ensures { result ≡ (meaning self.now).answer (seen col.entry.array.view) (stats_in col.entry) (history_of ctx.now) ctx.now.is_sample };
 
     // A Callback's verdict; `mark` is the best score so far.
     fn verdict(
@@ -94,36 +80,30 @@ pub trait Scheme {
         mark: Option<EstimateScore>,
         mem: &mut [u64],
     ) -> EstimateVerdict
-        requires sound { Sound col.array }
-        requires clean { CleanView col.array }
-        requires measured { Measured col }
-        requires room { spare (length col.array.cells.now) ≤ length mem.old }
-        ensures { result ≡ (meaning self.now).verdict (seen col.entry.array) (stats_in col.entry) (history_of ctx.now) ctx.now.is_sample mark };
+        requires room { spare (length col.array.view.cells.now) ≤ length mem.old }
+        ensures { result ≡ (meaning self.now).verdict (seen col.entry.array.view) (stats_in col.entry) (history_of ctx.now) ctx.now.is_sample mark };
 
     // The parts of a column: sizes as the answer, children in the lent places; or the row at which they are refused.
+    // The places are four slices: a clause sees a struct of `&mut` by position alone, and one behind `&mut` would have to say that they stayed.
     fn shape(
         &self,
-        array: View<'_>,
+        array: Cleaned<'_>,
         cells0: &mut [u64],
         words0: &mut [u64],
         cells1: &mut [u64],
         words1: &mut [u64],
         mem: &mut [u64],
-    ) -> Result<Shape, u32>
-        requires sound { Sound array }
-        requires clean { CleanView array }
-        requires kind { (meaning self.now).takes (number_of array.kind) ≡ true }
-        requires room { Room (length array.cells.now) cells0.old words0.old cells1.old words1.old mem.old }
-        ensures { shape_seen (meaning self.now).child_count result cells0.new words0.new cells1.new words1.new ≡ outline ((meaning self.now).parts (seen array.entry)) };
+    ) -> Result<Shape, RowRefused>
+        requires kind { (meaning self.now).takes (number_of array.view.kind) ≡ true }
+        requires room { Room (length array.view.cells.now) cells0.old words0.old cells1.old words1.old mem.old }
+        ensures { shape_seen (meaning self.now).child_count result cells0.new words0.new cells1.new words1.new ≡ outline ((meaning self.now).parts (seen array.entry.view)) };
 
     // The payload's bytes, to the front of `out`.
-    fn payload(&self, array: View<'_>, mem: &mut [u64], out: &mut [u8])
-        requires sound { Sound array }
-        requires clean { CleanView array }
-        requires kind { (meaning self.now).takes (number_of array.kind) ≡ true }
-        requires spared { spare (length array.cells.now) ≤ length mem.old }
-        requires room { length (payload_in ((meaning self.now).parts (seen array))) ≤ length out.old }
-        ensures { out.new ≡ written (payload_in ((meaning self.now).parts (seen array.entry))) out.old };
+    fn payload(&self, array: Cleaned<'_>, mem: &mut [u64], out: &mut [u8])
+        requires kind { (meaning self.now).takes (number_of array.view.kind) ≡ true }
+        requires spared { spare (length array.view.cells.now) ≤ length mem.old }
+        requires room { length (payload_in ((meaning self.now).parts (seen array.view))) ≤ length out.old }
+        ensures { out.new ≡ written (payload_in ((meaning self.now).parts (seen array.entry.view))) out.old };
 
     // The column that has these parts, into `cells` and `words`; safe on any bytes.
     fn join(&self, stored: Stored<'_>, mem: &mut [u64], cells: &mut [u64], words: &mut [u64])

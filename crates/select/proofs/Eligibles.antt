@@ -2,7 +2,7 @@
 use Rattle.std.proofs.Common.{◌≡◌, ℕ, Bool, true, false, ◌&&◌, ◌||◌, List, refl}
 use Rattle.scheme.specs.Meaning.{Meaning, History}
 use Rattle.scheme.specs.Exclusion.{competes, keep_if, eligible_of, wanted}
-use Rattle.scheme.proofs.Searches.{Any}
+use Rattle.bank.proofs.Places.{Any}
 
 want-by : (m : Meaning) (ms : List Meaning) (b : Bool) → wanted (keep_if b m ms) ≡ ((b && m.wants) || wanted ms)
 want-by m ms true = refl

@@ -1,21 +1,16 @@
--- What the loops over rules and entries look for, and the push rules of a scheme that was found by its id.
-use Rattle.std.proofs.Common.{◌≡◌, ℕ, suc, ◌+◌, Bool, true, false, cond, ◌&&◌, eqb, List, [], ◌∷◌, Some, None, Option, sym, refl, ap, ◌∙◌, arith}
-use Rattle.std.proofs.lemmas.Bool.{eq-eqb, ne_eqb}
-use Rattle.scheme.specs.declared.exclusion.DescendantExclusion.{DescendantExclusion}
-use Rattle.scheme.specs.declared.exclusion.AncestorExclusion.{AncestorExclusion}
-use Rattle.scheme.specs.Rules.{Rule, contains, names, children_seen, push_seen, pull_seen}
+-- What is asked of rules and entries, and the push rules of a scheme that was found by its id.
+use Rattle.std.proofs.Common.{◌≡◌, ℕ, suc, ◌+◌, Bool, true, false, cond, ◌&&◌, ◌==◌, eqb, List, [], ◌∷◌, map, Some, None, Option, MatchOption, sym, refl, ap, ◌∙◌, arith}
+use Rattle.scheme.specs.Rules.{Rule, contains, names}
 use Rattle.scheme.specs.Meaning.{Meaning}
 use Rattle.scheme.specs.Banks.{at, find_from}
 use Rattle.scheme.specs.Exclusion.{in_history, push_of, pushed, pulled}
-use Rattle.scheme.proofs.Searches.{Any}
+use Rattle.bank.proofs.Places.{Any}
 
-pub push-rules : (i c : ℕ) → Any (λ rs. names (push_seen rs) i c) (λ (r : DescendantExclusion). eqb r.excluded i && contains (children_seen r.children) c)
-push-rules i c = record { none = refl; more = λ r rs. refl }
+-- a rule that the code reads by r
+pub naming : {E : Type 0} (r : E → Rule) (i c : ℕ) → Any (λ es. names (map r es) i c) (λ e. (r e).scheme == i && contains (r e).children c)
+naming r i c = record { none = refl; more = λ e es. refl }
 
-pub pull-rules : (i c : ℕ) → Any (λ rs. names (pull_seen rs) i c) (λ (r : AncestorExclusion). eqb r.ancestor i && contains (children_seen r.children) c)
-pull-rules i c = record { none = refl; more = λ r rs. refl }
-
-pub own-entries : (i : ℕ) → Any (in_history i) (λ e. eqb e.0 i)
+pub own-entries : (i : ℕ) → Any (in_history i) (λ e. e.0 == i)
 own-entries i = record { none = refl; more = λ e es. refl }
 
 pub pushing-entries : (ms : List Meaning) (i : ℕ) → Any (pushed ms i) (λ e. names (push_of e.0 ms) i e.1)
@@ -23,17 +18,6 @@ pushing-entries ms i = record { none = refl; more = λ e es. refl }
 
 pub pulling-entries : (rules : List Rule) → Any (pulled rules) (λ e. names rules e.0 e.1)
 pulling-entries rules = record { none = refl; more = λ e es. refl }
-
--- ---- a rule's two tests
-
-pub both : (x i : ℕ) (b : Bool) → x ≡ i → true ≡ b → true ≡ (eqb x i && b)
-both x i b e f = f ∙ sym (ap (λ t. t && b) (eq-eqb x i e))
-
-pub other-scheme : (x i : ℕ) (b : Bool) → (x ≡ i → ⊥) → false ≡ (eqb x i && b)
-other-scheme x i b e = sym (ap (λ t. t && b) (ne_eqb x i e))
-
-pub other-child : (x i : ℕ) (b : Bool) → x ≡ i → false ≡ b → false ≡ (eqb x i && b)
-other-child x i b e f = f ∙ sym (ap (λ t. t && b) (eq-eqb x i e))
 
 -- ---- push rules by the number that the look-up gave
 
@@ -81,3 +65,8 @@ not_found (m ∷ ms) n k e = go (eqb m.id k) refl (λ h. not_found ms (suc n) k 
 
 pub pushes-none : (ms : List Meaning) (k : ℕ) → None ≡ find_from 0 ms k → push_of k ms ≡ []
 pushes-none ms k e = not_found ms 0 k (sym e)
+
+-- by what the look-up gave
+pub pushes-by : (ms : List Meaning) (k : ℕ) (o : Option ℕ) (r : List Rule) → o ≡ find_from 0 ms k → MatchOption o (r ≡ []) (λ j. r ≡ (at ms j).push) → r ≡ push_of k ms
+pushes-by ms k None r e h = h ∙ sym (pushes-none ms k e)
+pushes-by ms k (Some j) r e h = h ∙ sym (pushes-found ms k j e)

@@ -2,12 +2,13 @@
 use Rattle.std.proofs.Common.{◌≡◌, ℕ, zero, suc, ◌+◌, ◌*◌, ◌/◌, ◌^◌, ◌<◌, ◌≤◌, true, false, ltb, List, [], ◌∷◌, length, take, drop, Some, None, Option, sym, refl, ap, ◌∙◌, pow-suc, add-one, arith, pow_pos, w64, of_z}
 use Rattle.std.specs.List.{zip}
 use Rattle.std.proofs.lemmas.List.{length-take-le, length-drop}
+use Rattle.std.proofs.lemmas.Option.{none-some}
 use Rattle.std.proofs.lemmas.Bool.{lt-ltb, le-ltb}
 use Rattle.stats.specs.declared.integer.DistinctInfo.{DistinctInfo}
 use Rattle.stats.specs.declared.integer.ErasedStats.{ErasedStats}
 use Rattle.stats.specs.declared.integer.ErasedStats.TheVariants.{Unsigned, Signed}
 use Rattle.stats.specs.Stats.{firsts, seconds, count_in, values_in, counts_in, halvings, ilog2}
-use Rattle.stats.specs.Seen.{number_in, part_seen, same_cell, distinct_seen, number_erased}
+use Rattle.stats.specs.Seen.{number_in, part_seen, same_cell, distinct_seen, number_erased, part_cells, erased_cells}
 use Rattle.stats.specs.Laws.{Log2}
 
 length-zipped : (xs ys : List ℕ) → length xs ≡ length ys → length (zip xs ys) ≡ length xs
@@ -36,11 +37,21 @@ back d n t h = length-take-le d (drop n t) (omega (arith, length-drop n t))
 even : (d n : ℕ) (t : List ℕ) → n + d ≤ length t → length (take d t) ≡ length (take d (drop n t))
 even d n t h = front d n t h ∙ sym (back d n t h)
 
-pub count_of : {T : Type 0} (cell : T → ℕ) (d : DistinctInfo T) (o : Option (DistinctInfo T)) (n : ℕ) (t : List ℕ) → o ≡ Some d → n + number_in o ≤ length t → ◌≡◌ {A = Option ℕ} (Some d.distinct_count) (count_in (part_seen cell o n t))
-count_of cell d o n t e h =
-    let k = d.distinct_count in
-    let b : n + k ≤ length t = omega (arith, h, ap number_in e) in
-    ap Some (sym (length-zipped (take k t) (take k (drop n t)) (even k n t b) ∙ front k n t b)) ∙ sym (ap (λ z. count_in (part_seen cell z n t)) e)
+count-part : {T : Type 0} (cell : T → ℕ) (d : DistinctInfo ℕ) (o : Option (DistinctInfo T)) (n : ℕ) (t : List ℕ) → part_cells cell o ≡ Some d → n + number_in o ≤ length t → ◌≡◌ {A = Option ℕ} (Some d.distinct_count) (count_in (part_seen cell o n t))
+count-part cell d None n t e h = absurd (none-some d e)
+count-part cell d (Some i) n t e h =
+    let k = i.distinct_count in
+    let same : d.distinct_count ≡ k = ap (λ q. number_in q) (sym e) in
+    ap Some (same ∙ sym (length-zipped (take k t) (take k (drop n t)) (even k n t h) ∙ front k n t h))
+
+same-part : (o : Option (DistinctInfo ℕ)) → part_cells same_cell o ≡ o
+same-part None = refl
+same-part (Some d) = refl
+
+-- the number of pairs, where there is a distinct part
+pub count_of : (d : DistinctInfo ℕ) (e : ErasedStats) (n : ℕ) (t : List ℕ) → (erased_cells e).distinct ≡ Some d → n + number_erased e ≤ length t → ◌≡◌ {A = Option ℕ} (Some d.distinct_count) (count_in (distinct_seen e n t))
+count_of d (Unsigned s) n t e h = count-part same_cell d s.distinct n t (same-part s.distinct ∙ e) h
+count_of d (Signed s) n t e h = count-part (of_z w64) d s.distinct n t e h
 
 values-part : {T : Type 0} (cell : T → ℕ) (o : Option (DistinctInfo T)) (n : ℕ) (t : List ℕ) → n + number_in o ≤ length t → take (number_in o) t ≡ values_in (part_seen cell o n t)
 values-part cell None n t h = refl

@@ -1,5 +1,6 @@
 -- Changes and the last value of a list, one value after another.
-use Rattle.std.proofs.Common.{◌≡◌, ℕ, ◌+◌, ◌<◌, ◌≤◌, Bool, true, false, cond, eqb, List, [], ◌∷◌, ◌++◌, length, get_or, take, refl, ap, ◌∙◌, arith, eq-eqb}
+use Rattle.std.proofs.Common.{◌≡◌, ℕ, ◌+◌, ◌<◌, ◌≤◌, Bool, true, false, cond, eqb, List, [], ◌∷◌, ◌++◌, length, get_or, take, slice_get, Some, sym, refl, ap, ◌∙◌, arith, eq-eqb}
+use Rattle.std.proofs.lemmas.Option.{none-some, same_Some}
 use Rattle.std.proofs.lemmas.List.{take_more, length-take-le}
 use Rattle.stats.specs.Blocks.{last_or}
 use Rattle.stats.specs.Stats.{changes, runs}
@@ -36,9 +37,9 @@ pub counted-fits : (p : ℕ) (xs : List ℕ) (i : ℕ) → i < length xs → cha
 counted-fits p xs i h = omega (arith, changes-le p (take i xs), length-take-le i xs (omega arith))
 
 -- the first value starts the first run
-pub runs-first : (n p : ℕ) (us vs : List ℕ) → us ≡ vs → n ≡ length vs → (n ≡ 0 → ⊥) → p ≡ get_or vs 0 0 → 1 + changes p us ≡ runs vs
-runs-first n p us [] e l h f = absurd (h l)
-runs-first n p us (v ∷ vs) e l h f =
-    let t : eqb p v ≡ true = eq-eqb p v f in
-    let c : changes p us ≡ changes v vs = ap (changes p) e ∙ rw t (omega arith) in
-    omega (arith, c)
+pub runs-first : (v p : ℕ) (vs : List ℕ) → p ≡ v → slice_get vs 0 ≡ Some v → 1 + changes p vs ≡ runs vs
+runs-first v p [] e q = absurd (none-some v q)
+runs-first v p (x ∷ vs) e q =
+    let same : p ≡ x = e ∙ sym (same_Some x v q) in
+    let t : eqb p x ≡ true = eq-eqb p x same in
+    rw t (omega arith)

@@ -1,31 +1,69 @@
--- Least and greatest, from the last value to the first.
-use Rattle.std.proofs.Common.{◌≡◌, ℕ, ◌+◌, ◌-◌, ◌<◌, ◌≤◌, Bool, true, false, cond, ltb, leb, List, ◌∷◌, length, get_or, drop, sym, ap, ◌∙◌, arith}
-use Rattle.std.proofs.lemmas.Bool.{ltb-true, ltb-false, le-leb, lt-leb}
-use Rattle.std.proofs.lemmas.List.{drop_more}
-use Rattle.column.specs.Kinds.{key_by, key, signed}
+-- Least and greatest by keys, one value after another.
+use Rattle.std.proofs.Common.{◌≡◌, ℕ, ◌^◌, ◌<◌, min, max, Bool, true, false, cond, eqb, ltb, leb, List, [], ◌∷◌, ◌++◌, refl, arith}
+use Rattle.std.proofs.lemmas.Bool.{leb-true, leb-false, ltb-true, ltb-false}
+use Rattle.std.specs.Ordering.{nat_cmp, is_lt, ord_min, ord_max}
+use Rattle.std.specs.declared.cmp.Ordering.TheVariants.{Less, Equal, Greater}
+use Rattle.std.specs.List.{AllByRecursion}
+use Rattle.column.specs.Kinds.{key, signed, least, greatest}
 use Rattle.stats.specs.Stats.{least_of, greatest_of, lesser, larger}
+use Rattle.stats.proofs.Tallying.{key_back}
 
--- one more value in front
-front : (xs : List ℕ) (i : ℕ) → 0 < i → i ≤ length xs → drop (i - 1) xs ≡ get_or xs (i - 1) 0 ∷ drop i xs
-front xs i h l =
-    let e : i - 1 + 1 ≡ i = omega arith in
-    drop_more xs (i - 1) 0 (omega arith) ∙ ap (λ z. get_or xs (i - 1) 0 ∷ drop z xs) e
+key-lesser : (k a b : ℕ) → key k (lesser k a b) ≡ min (key k a) (key k b)
+key-lesser k a b = go (leb (key k a) (key k b)) refl
+  where
+    go : (t : Bool) → leb (key k a) (key k b) ≡ t → key k (cond t a b) ≡ min (key k a) (key k b)
+    go true e = omega (arith, leb-true _ _ e)
+    go false e = omega (arith, leb-false _ _ e)
 
-lesser-is : (k : ℕ) (s : Bool) → signed k ≡ s → (x m : ℕ) (b : Bool) → b ≡ ltb (key_by s m) (key_by s x) → cond b m x ≡ lesser k x m
-lesser-is k s e x m true t = let l = ltb-true (key_by s m) (key_by s x) (sym t) in let f : leb (key k x) (key k m) ≡ false = rw e (lt-leb _ _ l) in rw f
-lesser-is k s e x m false t = let l = ltb-false (key_by s m) (key_by s x) (sym t) in let f : leb (key k x) (key k m) ≡ true = rw e (le-leb _ _ l) in rw f
+key-larger : (k a b : ℕ) → key k (larger k a b) ≡ max (key k a) (key k b)
+key-larger k a b = go (leb (key k b) (key k a)) refl
+  where
+    go : (t : Bool) → leb (key k b) (key k a) ≡ t → key k (cond t a b) ≡ max (key k a) (key k b)
+    go true e = omega (arith, leb-true _ _ e)
+    go false e = omega (arith, leb-false _ _ e)
 
-larger-is : (k : ℕ) (s : Bool) → signed k ≡ s → (x m : ℕ) (b : Bool) → b ≡ ltb (key_by s x) (key_by s m) → cond b m x ≡ larger k x m
-larger-is k s e x m true t = let l = ltb-true (key_by s x) (key_by s m) (sym t) in let f : leb (key k m) (key k x) ≡ false = rw e (lt-leb _ _ l) in rw f
-larger-is k s e x m false t = let l = ltb-false (key_by s x) (key_by s m) (sym t) in let f : leb (key k m) (key k x) ≡ true = rw e (le-leb _ _ l) in rw f
+-- std's `min` and `max` at numbers
+pub ord-min-is : (a b : ℕ) → ord_min nat_cmp a b ≡ min a b
+ord-min-is a b = go (ltb b a) (eqb b a) refl
+  where
+    go : (t q : Bool) → ltb b a ≡ t → cond (is_lt (cond t Less (cond q Equal Greater))) b a ≡ min a b
+    go true q e = omega (arith, ltb-true b a e)
+    go false true e = omega (arith, ltb-false b a e)
+    go false false e = omega (arith, ltb-false b a e)
 
-pub least_more : (k : ℕ) (s : Bool) (xs : List ℕ) (i m m2 : ℕ) (b : Bool) → signed k ≡ s → 0 < i → i ≤ length xs → m ≡ least_of k (drop i xs) → b ≡ ltb (key_by s m) (key_by s (get_or xs (i - 1) 0)) → m2 ≡ cond b m (get_or xs (i - 1) 0) → m2 ≡ least_of k (drop (i - 1) xs)
-least_more k s xs i m m2 b e h l inv t r =
-    r ∙ lesser-is k s e (get_or xs (i - 1) 0) m b t ∙ ap (lesser k (get_or xs (i - 1) 0)) inv ∙ sym (ap (least_of k) (front xs i h l))
+pub ord-max-is : (a b : ℕ) → ord_max nat_cmp a b ≡ max a b
+ord-max-is a b = go (ltb b a) (eqb b a) refl
+  where
+    go : (t q : Bool) → ltb b a ≡ t → cond (is_lt (cond t Less (cond q Equal Greater))) a b ≡ max a b
+    go true q e = omega (arith, ltb-true b a e)
+    go false true e = omega (arith, ltb-false b a e)
+    go false false e = omega (arith, ltb-false b a e)
 
-pub greatest-more : (k : ℕ) (s : Bool) (xs : List ℕ) (i m m2 : ℕ) (b : Bool) → signed k ≡ s → 0 < i → i ≤ length xs → m ≡ greatest_of k (drop i xs) → b ≡ ltb (key_by s (get_or xs (i - 1) 0)) (key_by s m) → m2 ≡ cond b m (get_or xs (i - 1) 0) → m2 ≡ greatest_of k (drop (i - 1) xs)
-greatest-more k s xs i m m2 b e h l inv t r =
-    r ∙ larger-is k s e (get_or xs (i - 1) 0) m b t ∙ ap (larger k (get_or xs (i - 1) 0)) inv ∙ sym (ap (greatest_of k) (front xs i h l))
+-- one more value
+pub least_more : (k : ℕ) (xs : List ℕ) (x : ℕ) → key k (least_of k (xs ++ (x ∷ []))) ≡ min (key k (least_of k xs)) (key k x)
+least_more k [] x = omega (arith, key-lesser k x (greatest k))
+least_more k (y ∷ ys) x = omega (arith, key-lesser k y (least_of k (ys ++ (x ∷ []))), key-lesser k y (least_of k ys), least_more k ys x)
 
-pub none_left : (i : ℕ) (xs : List ℕ) → i ≤ 0 → drop i xs ≡ xs
-none_left i xs h = let z : i ≡ 0 = omega arith in ap (λ j. drop j xs) z
+pub greatest-more : (k : ℕ) (xs : List ℕ) (x : ℕ) → key k (greatest_of k (xs ++ (x ∷ []))) ≡ max (key k (greatest_of k xs)) (key k x)
+greatest-more k [] x = omega (arith, key-larger k x (least k))
+greatest-more k (y ∷ ys) x = omega (arith, key-larger k y (greatest_of k (ys ++ (x ∷ []))), key-larger k y (greatest_of k ys), greatest-more k ys x)
+
+-- one of two words is a word
+either-word : (b : Bool) (x y : ℕ) → x < 2 ^ 64 → y < 2 ^ 64 → cond b x y < 2 ^ 64
+either-word true x y h l = h
+either-word false x y h l = l
+
+least-word : (k : ℕ) (xs : List ℕ) → greatest k < 2 ^ 64 → AllByRecursion (λ x. x < 2 ^ 64) xs → least_of k xs < 2 ^ 64
+least-word k [] g a = g
+least-word k (x ∷ xs) g a = either-word (leb (key k x) (key k (least_of k xs))) x (least_of k xs) a.0 (least-word k xs g a.1)
+
+greatest-word : (k : ℕ) (xs : List ℕ) → least k < 2 ^ 64 → AllByRecursion (λ x. x < 2 ^ 64) xs → greatest_of k xs < 2 ^ 64
+greatest-word k [] g a = g
+greatest-word k (x ∷ xs) g a = either-word (leb (key k (greatest_of k xs)) (key k x)) x (greatest_of k xs) a.0 (greatest-word k xs g a.1)
+
+-- the key of the least value's key is the value
+pub least_back : (k : ℕ) (xs : List ℕ) → greatest k < 2 ^ 64 → AllByRecursion (λ x. x < 2 ^ 64) xs → key k (key k (least_of k xs)) ≡ least_of k xs
+least_back k xs g a = key_back (signed k) (least_of k xs) (least-word k xs g a)
+
+pub greatest-back : (k : ℕ) (xs : List ℕ) → least k < 2 ^ 64 → AllByRecursion (λ x. x < 2 ^ 64) xs → key k (key k (greatest_of k xs)) ≡ greatest_of k xs
+greatest-back k xs g a = key_back (signed k) (greatest_of k xs) (greatest-word k xs g a)

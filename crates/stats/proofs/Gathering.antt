@@ -1,8 +1,9 @@
 -- Values gathered one after another, and cells turned into keys where they stand.
-use Rattle.std.proofs.Common.{◌≡◌, ℕ, ◌+◌, ◌-◌, ◌*◌, ◌<◌, ◌≤◌, true, false, ◌⊎◌, List, [], ◌++◌, map, length, get_or, take, drop, set, sym, refl, ap, ◌∙◌, arith}
+use Rattle.std.proofs.Common.{◌≡◌, ℕ, ◌+◌, ◌-◌, ◌<◌, ◌≤◌, true, false, ◌⊎◌, List, ◌++◌, map, length, get_or, take, drop, set, sym, refl, ap, ◌∙◌, arith}
 use Rattle.std.proofs.lemmas.List.{take_more_set, drop_more, drop_all, drop-drop, drop-set-lt, take_all, append_assoc, append-nil}
-use Rattle.stats.specs.Blocks.{bit, kept_from, block_values}
-use Rattle.stats.proofs.Blocking.{block-split}
+use Rattle.stats.specs.Blocks.{bit, kept_from, shown}
+use Rattle.column.proofs.NextLaws.{Next, next-length}
+use Rattle.stats.proofs.RowsLink.{block-more, shown-none}
 
 pub gather-value : (w n i : ℕ) (xs out out2 : List ℕ) (n2 : ℕ) (goal : List ℕ) → i < length xs → n < length out → bit w i ≡ true → out2 ≡ set out n (get_or xs i 0) → n2 ≡ n + 1
     → take n out ++ kept_from w i (drop i xs) ≡ goal → take n2 out2 ++ kept_from w (i + 1) (drop (i + 1) xs) ≡ goal
@@ -25,32 +26,30 @@ drop-later m n xs ys h e =
     let q : m + (n - m) ≡ n = omega arith in
     sym (drop-drop (n - m) m xs ∙ ap (λ z. drop z xs) q) ∙ ap (drop (n - m)) e ∙ drop-drop (n - m) m ys ∙ ap (λ z. drop z ys) q
 
--- what is gathered, with what is to come, after b blocks; out0 is what stood there before
-pub record Got (words cells out0 out : List ℕ) (b at : ℕ) : Type 0 where
-  pub front : take at out ++ block_values (drop b words) (drop (64 * b) cells) ≡ block_values words cells
-  pub fits : at ≤ 64 * b
-  pub within : at ≤ length cells
+-- what is gathered, with what is to come in the words ws and the cells cs; out0 is what stood there before
+pub record Got (words cells out0 out : List ℕ) (at : ℕ) (ws cs : List ℕ) : Type 0 where
+  pub front : take at out ++ shown ws cs ≡ shown words cells
+  pub fits : at + length cs ≤ length cells
   pub beyond : drop (length cells) out ≡ drop (length cells) out0
 
-pub got-none : (words cells out : List ℕ) → Got words cells out out 0 0
-got-none words cells out = record { front = refl; fits = omega arith; within = omega arith; beyond = refl }
+pub got-none : (words cells out : List ℕ) → Got words cells out out 0 words cells
+got-none words cells out = record { front = refl; fits = omega arith; beyond = refl }
 
-pub got-more : {words cells out0 out : List ℕ} {b at : ℕ} → Got words cells out0 out b at → b < length words → (s e r m : ℕ) (out2 : List ℕ) → s ≡ 64 * b → s ≤ e → e ≤ length cells → (e ≡ length cells) ⊎ (e ≡ s + 64) → e ≤ s + 64
-    → take r out2 ≡ take at out ++ kept_from (get_or words b 0) 0 (take (e - s) (drop s cells)) → r ≤ at + (e - s) → m ≤ at + (e - s) → drop m out2 ≡ drop m out → Got words cells out0 out2 (b + 1) r
-got-more {words} {cells} {out0} {out} {b} {at} k h s e r m out2 se le l ends w f g i u =
-    let rest = block_values (drop (b + 1) words) (drop (64 * (b + 1)) cells) in
-    let new = kept_from (get_or words b 0) 0 (take (e - s) (drop s cells)) in
+pub got-more : {words cells out0 out : List ℕ} {at : ℕ} {ws cs : List ℕ} → Got words cells out0 out at ws cs → {word : ℕ} {block ws2 cs2 : List ℕ} → Next ws cs word block ws2 cs2 → (r : ℕ) (out2 : List ℕ)
+    → take r out2 ≡ take at out ++ kept_from word 0 block → r ≤ at + length block → drop (at + length block) out2 ≡ drop (at + length block) out → Got words cells out0 out2 r ws2 cs2
+got-more {words} {cells} {out0} {out} {at} {ws} {cs} k {word} {block} {ws2} {cs2} n r out2 f g u =
+    let rest = shown ws2 cs2 in
+    let new = kept_from word 0 block in
+    let long = next-length n in
     record {
-      front = ap (λ z. z ++ rest) f ∙ append_assoc (take at out) new rest ∙ ap (λ z. take at out ++ z) (sym (block-split words cells b s e h se le l ends w)) ∙ k.front;
-      fits = omega (arith, k.fits, se, w, g, le);
-      within = omega (arith, k.fits, se, l, g, le);
-      beyond = drop-later m (length cells) out2 out (omega (arith, k.fits, se, l, i, le)) u ∙ k.beyond;
+      front = ap (λ z. z ++ rest) f ∙ append_assoc (take at out) new rest ∙ ap (λ z. take at out ++ z) (sym (block-more n)) ∙ k.front;
+      fits = omega (arith, k.fits, long, g);
+      beyond = drop-later (at + length block) (length cells) out2 out (omega (arith, k.fits, long)) u ∙ k.beyond;
     }
 
-pub got-all : {words cells out0 out : List ℕ} {b at : ℕ} → Got words cells out0 out b at → length words ≤ b → take at out ≡ block_values words cells
-got-all {words} {cells} {out0} {out} {b} {at} k h =
-    let d : block_values (drop b words) (drop (64 * b) cells) ≡ [] = ap (λ z. block_values z (drop (64 * b) cells)) (drop_all b words h) in
-    sym (append-nil (take at out)) ∙ ap (λ z. take at out ++ z) (sym d) ∙ k.front
+pub got-all : {words cells out0 out : List ℕ} {at : ℕ} {ws cs : List ℕ} → Got words cells out0 out at ws cs → (length cs ≡ 0) ⊎ (length ws ≡ 0) → take at out ≡ shown words cells
+got-all {words} {cells} {out0} {out} {at} {ws} {cs} k o =
+    sym (append-nil (take at out)) ∙ ap (λ z. take at out ++ z) (sym (shown-none ws cs o)) ∙ k.front
 
 -- one more cell turned in place
 pub turn_more : (f : ℕ → ℕ) (xs ys : List ℕ) (i y : ℕ) (goal : List ℕ) → i < length xs → y ≡ f (get_or xs i 0) → ys ≡ set xs i y → take i xs ++ map f (drop i xs) ≡ goal → take (i + 1) ys ++ map f (drop (i + 1) ys) ≡ goal

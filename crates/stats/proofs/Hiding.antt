@@ -4,7 +4,7 @@ use Rattle.column.specs.Columns.{Row, Offer, values, word_bits, offered, cleaned
 use Rattle.stats.specs.Stats.{Stats, stats_of, stats, empty_stats, blank_stats}
 use Rattle.column.specs.Views.{Alike}
 use Rattle.column.proofs.HiddenLaws.{hidden}
-use Rattle.stats.proofs.RowsLink.{length-rows, length_digits}
+use Rattle.column.proofs.RowLaws.{length-rows, length_digits}
 
 pub hidden-of : (want : Bool) (a : Offer) (s : Stats) → s ≡ stats want (cleaned a) → (b : Offer) → Alike a b → s ≡ stats want (cleaned b)
 hidden-of want a s e b h = e ∙ ap (stats want) (hidden a b h).0

@@ -1,6 +1,5 @@
 -- The commonest pair, one pair after another.
-use Rattle.std.proofs.Common.{◌≡◌, ℕ, ◌+◌, ◌<◌, ◌≤◌, Bool, true, false, cond, eqb, ltb, List, [], ◌∷◌, length, get_or, drop, sym, refl, ap, ◌∙◌, subst, arith}
-use Rattle.std.proofs.lemmas.List.{drop_more, drop_all}
+use Rattle.std.proofs.Common.{◌≡◌, ℕ, ◌+◌, ◌≤◌, Bool, true, false, cond, eqb, ltb, List, [], ◌∷◌, ◌++◌, length, sym, refl, ap, ◌∙◌, subst, arith}
 use Rattle.stats.specs.Stats.{commonest_after}
 use Rattle.std.specs.List.{zip, AllByRecursion}
 use Rattle.stats.specs.Table.{lens, lens_from}
@@ -20,15 +19,15 @@ after_one b p ps = go (ltb b.1 p.1)
     go true = refl
     go false = refl
 
-pub top-more : (vs cs : List ℕ) (i : ℕ) (b b2 goal : ℕ × ℕ) → i < length vs → i < length cs → b2 ≡ commonest_after b ((get_or vs i 0, get_or cs i 0) ∷ [])
-    → commonest_after b (zip (drop i vs) (drop i cs)) ≡ goal → commonest_after b2 (zip (drop (i + 1) vs) (drop (i + 1) cs)) ≡ goal
-top-more vs cs i b b2 goal h l e k =
-    let rest = zip (drop (i + 1) vs) (drop (i + 1) cs) in
-    let k1 = rw (drop_more vs i 0 h, drop_more cs i 0 l) at k in
-    ap (λ z. commonest_after z rest) e ∙ after_one b (get_or vs i 0, get_or cs i 0) rest ∙ k1
+after-more : (b : ℕ × ℕ) (ps : List (ℕ × ℕ)) (p : ℕ × ℕ) → commonest_after b (ps ++ (p ∷ [])) ≡ commonest_after (commonest_after b ps) (p ∷ [])
+after-more b [] p = refl
+after-more b (q ∷ ps) p =
+    sym (after_one b q (ps ++ (p ∷ [])))
+    ∙ after-more (commonest_after b (q ∷ [])) ps p
+    ∙ ap (λ z. commonest_after z (p ∷ [])) (after_one b q ps)
 
-pub top-all : (vs cs : List ℕ) (i : ℕ) (b goal : ℕ × ℕ) → length vs ≤ i → commonest_after b (zip (drop i vs) (drop i cs)) ≡ goal → b ≡ goal
-top-all vs cs i b goal h k = rw (drop_all i vs h) at k
+pub commonest-more : (ps : List (ℕ × ℕ)) (p b b2 : ℕ × ℕ) → b ≡ commonest ps → b2 ≡ commonest_after b (p ∷ []) → b2 ≡ commonest (ps ++ (p ∷ []))
+commonest-more ps p b b2 e f = f ∙ ap (λ z. commonest_after z (p ∷ [])) e ∙ sym (after-more (0, 0) ps p)
 
 -- no count is above the number of values
 lens-le : (cur n : ℕ) (xs : List ℕ) (m : ℕ) → n + length xs ≤ m → AllByRecursion (λ c. c ≤ m) (lens_from cur n xs)

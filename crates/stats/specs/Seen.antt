@@ -1,14 +1,14 @@
 -- What the code's statistics say, with the table that they left in lent memory: the distinct values from word 0 on, and their
 -- counts from the word on whose number is the number of values.
-use Rattle.std.specs.Prelude.{ℕ, ◌+◌, ◌≤◌, List, length, take, drop, Some, None, Option}
+use Rattle.std.specs.Prelude.{ℕ, ◌+◌, ◌≤◌, Bool, true, false, List, length, take, drop, Some, None, Option}
 use Rattle.std.proofs.Common.{of_z}
 use Rattle.std.specs.Int.{w64}
 use Rattle.std.specs.List.{zip}
 use Rattle.stats.specs.declared.integer.DistinctInfo.{DistinctInfo}
 use Rattle.stats.specs.declared.integer.ErasedStats.{ErasedStats}
 use Rattle.stats.specs.declared.integer.ErasedStats.TheVariants.{Unsigned, Signed}
-use Rattle.stats.specs.declared.integer.Generated.{Generated}
 use Rattle.stats.specs.declared.integer.IntegerStats.{IntegerStats}
+use Rattle.stats.specs.declared.integer.TypedStats.{TypedStats}
 use Rattle.stats.specs.Stats.{Distinct, Stats}
 
 -- the distinct part of a column with n values
@@ -24,19 +24,27 @@ abbrev pub part_seen : {T : Type 0} → (T → ℕ) → Option (DistinctInfo T) 
 part_seen cell None n t = None
 part_seen cell (Some d) n t = Some (info_seen cell d n t)
 
--- statistics of numbers whose pattern is their cell
-abbrev pub generated_seen : {T : Type 0} → (T → ℕ) → Generated T → List ℕ → Stats
-generated_seen cell g t =
-    record {
-      blanks = g.null_count;
-      count = g.value_count;
-      average = g.average_run_length;
-      least = cell g.typed.min;
-      greatest = cell g.typed.max;
-      distinct = part_seen cell g.typed.distinct g.value_count t;
-    }
+-- the same with each value as its cell
+abbrev pub info_cells : {T : Type 0} → (T → ℕ) → DistinctInfo T → DistinctInfo ℕ
+info_cells cell d =
+    record { distinct_count = d.distinct_count; most_frequent_value = cell d.most_frequent_value; top_frequency = d.top_frequency }
+
+abbrev pub part_cells : {T : Type 0} → (T → ℕ) → Option (DistinctInfo T) → Option (DistinctInfo ℕ)
+part_cells cell None = None
+part_cells cell (Some d) = Some (info_cells cell d)
+
+abbrev pub typed_cells : {T : Type 0} → (T → ℕ) → TypedStats T → TypedStats ℕ
+typed_cells cell s = record { min = cell s.min; max = cell s.max; distinct = part_cells cell s.distinct }
 
 -- ---- without the type: an unsigned number is its cell
+
+abbrev pub erased_cells : ErasedStats → TypedStats ℕ
+erased_cells (Unsigned s) = s
+erased_cells (Signed s) = typed_cells (of_z w64) s
+
+abbrev pub is_signed : ErasedStats → Bool
+is_signed (Unsigned s) = false
+is_signed (Signed s) = true
 
 abbrev pub same_cell : ℕ → ℕ
 same_cell x = x

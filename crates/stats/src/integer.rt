@@ -1,9 +1,11 @@
 // The statistics of a column of whole numbers.
 ghost use Rattle.std.specs.Prelude.{◌≡◌, ℕ, ◌+◌, ◌-◌, ◌*◌, ◌%◌, ◌^◌, ◌<◌, ◌≤◌, List, [], length, drop};
-ghost use Rattle.column.specs.Kinds.{width as width_of, key, signed, number_of};
-ghost use Rattle.column.specs.Columns.{Offer, Sound, Clean, values, cleaned, offer_seen, seen};
-ghost use Rattle.stats.specs.Stats.{stats, count_in, top_in, distinct_count, distinct_values, distinct_counts, most_frequent, max_minus_min, min_is_zero, min_is_negative, max_ilog2, empty_stats, blank_stats};
-ghost use Rattle.stats.specs.Seen.{part_seen, generated_seen, stats_seen, pairs, most as most_of, Holds, number_in, most_in, or_zero, count_or_zero};
+ghost use Rattle.std.proofs.Common.{of_z};
+ghost use Rattle.std.specs.Int.{w64};
+ghost use Rattle.column.specs.Kinds.{width as width_of, signed, number_of};
+ghost use Rattle.column.specs.Columns.{Offer, Clean, values, cleaned, offer_seen, seen};
+ghost use Rattle.stats.specs.Stats.{stats, distinct_count, distinct_values, distinct_counts, most_frequent, max_minus_min, min_is_zero, min_is_negative, max_ilog2, empty_stats, blank_stats};
+ghost use Rattle.stats.specs.Seen.{stats_seen, is_signed, info_cells, typed_cells, erased_cells, pairs, most as most_of, Holds, number_in, most_in, or_zero, count_or_zero};
 ghost use Rattle.column.specs.Views.{Alike};
 ghost use Rattle.stats.specs.Laws.{Right, Log2};
 
@@ -11,9 +13,9 @@ use crate::distinct::distinct_part;
 use crate::options::GenerateStatsOptions;
 use crate::runs::{average_run_length, runs_from};
 use crate::values::{gather, greatest_of, least_of};
-use crate::whole::Whole;
 use column::kinds::Kind;
 use column::views::View;
+use packing::low_bits;
 
 // The distinct values, whose table lies in lent memory.
 #[derive(Clone, Copy)]
@@ -21,6 +23,31 @@ pub struct DistinctInfo<T> {
     pub(crate) distinct_count: u32,
     pub(crate) most_frequent_value: T,
     pub(crate) top_frequency: u32,
+}
+
+// With the commonest value as its cell.
+impl From<DistinctInfo<i64>> for DistinctInfo<u64> {
+    ghost from_gives = { λ info cells. cells ≡ info_cells (of_z w64) info };
+
+    fn from(info: DistinctInfo<i64>) -> DistinctInfo<u64> {
+        DistinctInfo {
+            distinct_count: info.distinct_count,
+            most_frequent_value: info.most_frequent_value.cast_unsigned(),
+            top_frequency: info.top_frequency,
+        }
+    }
+}
+
+impl From<DistinctInfo<u64>> for DistinctInfo<i64> {
+    ghost from_gives = { λ cells info. info_cells (of_z w64) info ≡ cells };
+
+    fn from(cells: DistinctInfo<u64>) -> DistinctInfo<i64> {
+        DistinctInfo {
+            distinct_count: cells.distinct_count,
+            most_frequent_value: cells.most_frequent_value.cast_signed(),
+            top_frequency: cells.top_frequency,
+        }
+    }
 }
 
 // What differs by the type of the values.
@@ -31,20 +58,28 @@ pub struct TypedStats<T> {
     distinct: Option<DistinctInfo<T>>,
 }
 
-impl<T: Whole> TypedStats<T> {
-    fn distinct_count(&self) -> Option<u32>
-        ensures stands { (n : ℕ) (t : List ℕ) → n + number_in self.now.distinct ≤ length t → result ≡ count_in (part_seen T.Whole.cell self.now.distinct n t) }
-        ensures pairs { or_zero result ≡ number_in self.now.distinct }
-    {
-        Some(self.distinct?.distinct_count)
-    }
+// With each value as its cell.
+impl From<TypedStats<i64>> for TypedStats<u64> {
+    ghost from_gives = { λ stats cells. cells ≡ typed_cells (of_z w64) stats };
 
-    fn most_frequent_value_and_count(&self) -> Option<(u64, u32)>
-        ensures stands { (n : ℕ) (t : List ℕ) → result ≡ top_in (part_seen T.Whole.cell self.now.distinct n t) }
-        ensures most { count_or_zero result ≡ most_in self.now.distinct }
-    {
-        let info = self.distinct?;
-        Some((info.most_frequent_value.to_cell(), info.top_frequency))
+    fn from(stats: TypedStats<i64>) -> TypedStats<u64> {
+        TypedStats {
+            min: stats.min.cast_unsigned(),
+            max: stats.max.cast_unsigned(),
+            distinct: stats.distinct.map(|info| DistinctInfo::from(info)),
+        }
+    }
+}
+
+impl From<TypedStats<u64>> for TypedStats<i64> {
+    ghost from_gives = { λ cells stats. typed_cells (of_z w64) stats ≡ cells };
+
+    fn from(cells: TypedStats<u64>) -> TypedStats<i64> {
+        TypedStats {
+            min: cells.min.cast_signed(),
+            max: cells.max.cast_signed(),
+            distinct: cells.distinct.map(|info| DistinctInfo::from(info)),
+        }
     }
 }
 
@@ -54,13 +89,18 @@ pub enum ErasedStats {
     Signed(TypedStats<i64>),
 }
 
-// Statistics before their type is hidden.
-#[derive(Clone, Copy)]
-struct Generated<T> {
-    null_count: u32,
-    value_count: u32,
-    average_run_length: u32,
-    typed: TypedStats<T>,
+impl ErasedStats {
+    // Signed numbers for a signed kind, else unsigned ones.
+    fn from_cells(kind: Kind, cells: TypedStats<u64>) -> ErasedStats
+        ensures cells { erased_cells result ≡ cells }
+        ensures typed { is_signed result ≡ signed (number_of kind) }
+    {
+        if kind.is_signed() {
+            ErasedStats::Signed(TypedStats::from(cells))
+        } else {
+            ErasedStats::Unsigned(cells)
+        }
+    }
 }
 
 #[derive(Clone, Copy)]
@@ -73,58 +113,32 @@ pub struct IntegerStats {
 }
 
 // The values stand at the front of the table, then the counts; 64 words after twice the rows are for the blocks.
-fn typed_int_stats<T: Whole>(view: View<'_>, want: bool, table: &mut [u64]) -> Generated<T>
-    requires order { signed (number_of view.kind) ≡ T.Whole.minus }
-    requires sound { Sound view }
+fn typed_int_stats(view: View<'_>, want: bool, table: &mut [u64]) -> IntegerStats
     requires room { 2 * length view.cells.now + 64 ≤ length table.old }
-    ensures stands { generated_seen T.Whole.cell result table.new ≡ stats want (seen view.entry) }
-    ensures few { number_in result.typed.distinct ≤ result.value_count }
-    ensures most { most_in result.typed.distinct ≤ result.value_count }
+    ensures stands { stats_seen result table.new ≡ stats want (seen view.entry) }
+    ensures kind { result.kind ≡ view.entry.kind }
+    ensures typed { is_signed result.erased ≡ signed (number_of view.entry.kind) }
+    ensures few { pairs result ≤ result.value_count }
+    ensures most { most_of result ≤ result.value_count }
     ensures rows { result.null_count + result.value_count ≡ length view.entry.cells.now }
     ensures beyond { drop (2 * length view.entry.cells.now + 64) table.new ≡ drop (2 * length view.entry.cells.now + 64) table.old }
 {
     let rows = view.cells.len();
-    let count = gather(view.cells, view.words, table);
-    let min = least_of::<T>(view.kind, &table[0..count]);
-    let max = greatest_of::<T>(view.kind, &table[0..count]);
-    let first = if count == 0 { 0 } else { table[0] };
+    let count = gather(view, table);
+    let min = least_of(view.kind, &table[..count]);
+    let max = greatest_of(view.kind, &table[..count]);
+    let first = table[..count].first().copied();
     let at = 2 * rows;
-    let runs = runs_from::<T>(
-        view.cells,
-        view.words,
-        count,
-        first,
-        &mut table[at..at + 64],
-    );
+    let runs = runs_from(view, first, &mut table[at..at + 64]);
     let value_count = count as u32;
-    let average_run_length = average_run_length(value_count, runs);
-    let distinct = distinct_part::<T>(view.kind, rows, want, table, count);
-    let typed = TypedStats { min, max, distinct };
-    Generated {
+    let distinct = distinct_part(view.kind, rows, want, table, count);
+    IntegerStats {
+        kind: view.kind,
         null_count: (rows - count) as u32,
         value_count,
-        average_run_length,
-        typed,
+        average_run_length: average_run_length(value_count, runs),
+        erased: ErasedStats::from_cells(view.kind, TypedStats { min, max, distinct }),
     }
-}
-
-// The key of a cell, by the order of the kind.
-fn key_of(kind: Kind, w: u64) -> u64
-    ensures { result ≡ key (number_of kind) w }
-{
-    if kind.is_signed() {
-        <i64 as Whole>::key_of(w)
-    } else {
-        <u64 as Whole>::key_of(w)
-    }
-}
-
-// What the lowest bits of a word say.
-fn low_bits(w: u64, bits: u32) -> u64
-    requires bits { bits ≤ 64 }
-    ensures { result ≡ w % 2 ^ bits }
-{
-    if bits < 64 { w % (1 << bits) } else { w }
 }
 
 impl IntegerStats {
@@ -135,10 +149,10 @@ impl IntegerStats {
         opts: GenerateStatsOptions,
         table: &mut [u64],
     ) -> IntegerStats
-        requires sound { Sound view }
         requires room { 2 * length view.cells.now + 64 ≤ length table.old }
         ensures stands { stats_seen result table.new ≡ stats opts.count_distinct_values (seen view.entry) }
         ensures kind { result.kind ≡ view.entry.kind }
+        ensures typed { is_signed result.erased ≡ signed (number_of view.entry.kind) }
         ensures rows { result.null_count + result.value_count ≡ length view.entry.cells.now }
         ensures holds { Holds result table.new }
         ensures few { pairs result ≤ result.value_count }
@@ -149,26 +163,7 @@ impl IntegerStats {
         ensures blank { 0 < length view.entry.cells.now → values (seen view.entry) ≡ [] → stats_seen result table.new ≡ blank_stats (number_of view.entry.kind) (length view.entry.cells.now) }
         ensures hidden { (o : Offer) → Alike (offer_seen view.entry) o → stats_seen result table.new ≡ stats opts.count_distinct_values (cleaned o) }
     {
-        let want = opts.count_distinct_values;
-        if view.kind.is_signed() {
-            let g = typed_int_stats::<i64>(view, want, table);
-            IntegerStats {
-                kind: view.kind,
-                null_count: g.null_count,
-                value_count: g.value_count,
-                average_run_length: g.average_run_length,
-                erased: ErasedStats::Signed(g.typed),
-            }
-        } else {
-            let g = typed_int_stats::<u64>(view, want, table);
-            IntegerStats {
-                kind: view.kind,
-                null_count: g.null_count,
-                value_count: g.value_count,
-                average_run_length: g.average_run_length,
-                erased: ErasedStats::Unsigned(g.typed),
-            }
-        }
+        typed_int_stats(view, opts.count_distinct_values, table)
     }
 
     pub fn null_count(&self) -> u32
@@ -189,24 +184,28 @@ impl IntegerStats {
         self.average_run_length
     }
 
+    // What differs by the type of the values, as cells.
+    fn cells(&self) -> TypedStats<u64>
+        ensures { result ≡ erased_cells self.now.erased }
+    {
+        match self.erased {
+            ErasedStats::Unsigned(s) => s,
+            ErasedStats::Signed(s) => TypedStats::from(s),
+        }
+    }
+
     // The least value as a cell, without one the kind's greatest.
     pub fn min(&self) -> u64
         ensures { result ≡ (stats_seen self.now []).least }
     {
-        match self.erased {
-            ErasedStats::Unsigned(s) => s.min.to_cell(),
-            ErasedStats::Signed(s) => s.min.to_cell(),
-        }
+        self.cells().min
     }
 
     // The greatest value as a cell, without one the kind's least.
     pub fn max(&self) -> u64
         ensures { result ≡ (stats_seen self.now []).greatest }
     {
-        match self.erased {
-            ErasedStats::Unsigned(s) => s.max.to_cell(),
-            ErasedStats::Signed(s) => s.max.to_cell(),
-        }
+        self.cells().max
     }
 
     // How many values are distinct, if they were counted.
@@ -214,10 +213,8 @@ impl IntegerStats {
         ensures stands { (t : List ℕ) → Holds self.now t → result ≡ distinct_count (stats_seen self.now t) }
         ensures pairs { or_zero result ≡ pairs self.now }
     {
-        match self.erased {
-            ErasedStats::Unsigned(s) => s.distinct_count(),
-            ErasedStats::Signed(s) => s.distinct_count(),
-        }
+        let cells = self.cells();
+        Some(cells.distinct?.distinct_count)
     }
 
     // The commonest value as a cell, the least among equals, with its count.
@@ -225,20 +222,15 @@ impl IntegerStats {
         ensures stands { (t : List ℕ) → result ≡ most_frequent (stats_seen self.now t) }
         ensures most { count_or_zero result ≡ most_of self.now }
     {
-        match self.erased {
-            ErasedStats::Unsigned(s) => s.most_frequent_value_and_count(),
-            ErasedStats::Signed(s) => s.most_frequent_value_and_count(),
-        }
+        let info = self.cells().distinct?;
+        Some((info.most_frequent_value, info.top_frequency))
     }
 
     // How many pairs stand in the table.
     fn pairs(&self) -> usize
         ensures { result ≡ pairs self.now }
     {
-        match self.distinct_count() {
-            Some(n) => n as usize,
-            None => 0,
-        }
+        self.distinct_count().unwrap_or(0) as usize
     }
 
     // The distinct values ascending, as cells, from the table that `generate_opts` left.
@@ -264,10 +256,17 @@ impl IntegerStats {
     pub fn max_minus_min(&self) -> u64
         ensures { result ≡ max_minus_min (number_of self.now.kind) (stats_seen self.now []) }
     {
+        self.max_minus_min_in(self.kind)
+    }
+
+    // The same by the order of another kind.
+    pub fn max_minus_min_in(&self, kind: Kind) -> u64
+        ensures { result ≡ max_minus_min (number_of kind) (stats_seen self.now []) }
+    {
         if self.value_count == 0 {
             return 0;
         }
-        key_of(self.kind, self.max()).saturating_sub(key_of(self.kind, self.min()))
+        kind.key(self.max()).saturating_sub(kind.key(self.min()))
     }
 
     pub fn min_is_zero(&self) -> bool
@@ -279,7 +278,7 @@ impl IntegerStats {
     pub fn min_is_negative(&self) -> bool
         ensures { result ≡ min_is_negative (number_of self.now.kind) (stats_seen self.now []) }
     {
-        key_of(self.kind, self.min()) < key_of(self.kind, 0)
+        self.kind.key(self.min()) < self.kind.key(0)
     }
 
     // The base-2 logarithm, rounded down, of the greatest value taken as an unsigned number of the kind's width; 0 has none.
@@ -287,7 +286,7 @@ impl IntegerStats {
         ensures stands { result ≡ max_ilog2 (number_of self.now.kind) (stats_seen self.now []) }
         ensures floor { Log2 ((stats_seen self.now []).greatest % 2 ^ width_of (number_of self.now.kind)) result }
     {
-        let max = low_bits(self.max(), self.kind.width());
+        let max = low_bits(u128::from(self.max()), self.kind.width());
         if max == 0 { None } else { Some(max.ilog2()) }
     }
 }

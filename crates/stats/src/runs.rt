@@ -1,22 +1,24 @@
 // Runs of equal values, counted by blocks of 64 rows with a presence word each.
-ghost use Rattle.std.specs.Prelude.{◌≡◌, ◌+◌, ◌-◌, ◌*◌, ◌/◌, ◌^◌, ◌<◌, ◌≤◌, length, if◌then◌else◌, nat_eq, slice_index};
-ghost use Rattle.column.specs.Columns.{words_for};
+ghost use Rattle.std.specs.Prelude.{◌≡◌, ◌+◌, ◌-◌, ◌*◌, ◌/◌, ◌^◌, ◌<◌, ◌≤◌, length, if◌then◌else◌, nat_eq, slice_get};
+ghost use Rattle.column.specs.Columns.{seen, values};
+ghost use Rattle.column.specs.Words.{bit};
 ghost use Rattle.stats.specs.Stats.{changes, runs as run_count, quotient};
-ghost use Rattle.stats.specs.Blocks.{bit, last_or, kept_from, filled_from, block_values, shown};
+ghost use Rattle.stats.specs.Blocks.{last_or, kept_from, filled_from};
 
-use crate::blocks::is_set;
-use crate::whole::Whole;
+use column::blocks::Block;
+use column::rows::is_set;
+use column::views::View;
 
 // The last value seen, and the runs so far.
 #[derive(Drop)]
-pub(crate) struct LoopState<T> {
-    prev: T,
+pub(crate) struct LoopState {
+    prev: u64,
     runs: u32,
 }
 
-impl<T: Whole> LoopState<T> {
+impl LoopState {
     // The first value starts the first run.
-    fn new(head: T) -> LoopState<T>
+    fn new(head: u64) -> LoopState
         ensures prev { result.prev ≡ head }
         ensures runs { result.runs ≡ 1 }
     {
@@ -27,12 +29,12 @@ impl<T: Whole> LoopState<T> {
     }
 
     // One more value.
-    fn push(&mut self, value: T)
+    fn push(&mut self, value: u64)
         requires fits { self.old.runs + 1 < 2 ^ 32 }
-        ensures runs { self.new.runs ≡ self.old.runs + (if nat_eq (T.cell self.old.prev) (T.cell value) then 0 else 1) }
-        ensures prev { T.cell self.new.prev ≡ T.cell value }
+        ensures runs { self.new.runs ≡ self.old.runs + (if nat_eq self.old.prev value then 0 else 1) }
+        ensures prev { self.new.prev ≡ value }
     {
-        if !self.prev.same(value) {
+        if self.prev != value {
             self.prev = value;
             self.runs += 1;
         }
@@ -40,13 +42,13 @@ impl<T: Whole> LoopState<T> {
 }
 
 // One more block without blanks.
-fn inner_loop_nonnull<T: Whole>(values: &[u64], state: &mut LoopState<T>)
+fn inner_loop_nonnull(values: &[u64], state: &mut LoopState)
     requires fits { state.old.runs + length values.now < 2 ^ 32 }
-    ensures runs { state.new.runs ≡ state.old.runs + changes (T.cell state.old.prev) values.now }
-    ensures prev { T.cell state.new.prev ≡ last_or (T.cell state.old.prev) values.now }
+    ensures runs { state.new.runs ≡ state.old.runs + changes state.old.prev values.now }
+    ensures prev { state.new.prev ≡ last_or state.old.prev values.now }
 {
     for v in values {
-        state.push(T::of_cell(*v));
+        state.push(*v);
     }
 }
 
@@ -59,93 +61,73 @@ fn carried(valid: u64, i: usize, cell: u64, last: u64) -> u64
 }
 
 // Each blank, whose bit in `valid` is 0, becomes the value before it, or `prev`.
-fn forward_fill<T: Whole>(filled: &mut [u64], valid: u64, prev: T)
+fn forward_fill(filled: &mut [u64], valid: u64, prev: u64)
     requires few { length filled.old ≤ 64 }
-    ensures { filled.new ≡ filled_from valid 0 (T.cell prev) filled.old }
+    ensures { filled.new ≡ filled_from valid 0 prev filled.old }
 {
-    let mut last = prev.to_cell();
-    for i in 0..filled.len() {
-        last = carried(valid, i, filled[i], last);
-        filled[i] = last;
+    let mut last = prev;
+    for (i, cell) in filled.iter_mut().enumerate() {
+        last = carried(valid, i, *cell, last);
+        *cell = last;
     }
 }
 
 // One more block with blanks; `work` is lent for the filled copy.
-fn inner_loop_nullable<T: Whole>(
-    values: &[u64],
-    valid: u64,
-    work: &mut [u64],
-    state: &mut LoopState<T>,
-)
-    requires few { length values.now ≤ 64 }
-    requires room { length values.now ≤ length work.old }
-    requires fits { state.old.runs + length values.now < 2 ^ 32 }
-    ensures runs { state.new.runs ≡ state.old.runs + changes (T.cell state.old.prev) (kept_from valid 0 values.now) }
-    ensures prev { T.cell state.new.prev ≡ last_or (T.cell state.old.prev) (kept_from valid 0 values.now) }
+fn inner_loop_nullable(block: Block<'_>, work: &mut [u64], state: &mut LoopState)
+    requires room { length block.cells.now ≤ length work.old }
+    requires fits { state.old.runs + length block.cells.now < 2 ^ 32 }
+    ensures runs { state.new.runs ≡ state.old.runs + changes state.old.prev (kept_from block.entry.word 0 block.entry.cells.now) }
+    ensures prev { state.new.prev ≡ last_or state.old.prev (kept_from block.entry.word 0 block.entry.cells.now) }
 {
-    let filled = &mut work[0..values.len()];
-    filled.copy_from_slice(values);
-    forward_fill(filled, valid, state.prev);
+    let filled = &mut work[0..block.cells.len()];
+    filled.copy_from_slice(block.cells);
+    forward_fill(filled, block.word, state.prev);
     inner_loop_nonnull(filled, state);
 }
 
 // One more block.
-fn inner_loop<T: Whole>(values: &[u64], valid: u64, work: &mut [u64], state: &mut LoopState<T>)
-    requires few { length values.now ≤ 64 }
-    requires room { length values.now ≤ length work.old }
-    requires fits { state.old.runs + length values.now < 2 ^ 32 }
-    ensures runs { state.new.runs ≡ state.old.runs + changes (T.cell state.old.prev) (kept_from valid 0 values.now) }
-    ensures prev { T.cell state.new.prev ≡ last_or (T.cell state.old.prev) (kept_from valid 0 values.now) }
+fn inner_loop(block: Block<'_>, work: &mut [u64], state: &mut LoopState)
+    requires room { length block.cells.now ≤ length work.old }
+    requires fits { state.old.runs + length block.cells.now < 2 ^ 32 }
+    ensures runs { state.new.runs ≡ state.old.runs + changes state.old.prev (kept_from block.entry.word 0 block.entry.cells.now) }
+    ensures prev { state.new.prev ≡ last_or state.old.prev (kept_from block.entry.word 0 block.entry.cells.now) }
 {
-    match valid {
+    match block.word {
         0 => {}
-        u64::MAX => inner_loop_nonnull(values, state),
-        _ => inner_loop_nullable(values, valid, work, state),
+        u64::MAX => inner_loop_nonnull(block.cells, state),
+        _ => inner_loop_nullable(block, work, state),
     }
 }
 
 // All blocks, with the last value carried on.
-fn count_runs<T: Whole>(cells: &[u64], words: &[u64], work: &mut [u64], state: &mut LoopState<T>)
-    requires shape { length words.now ≡ words_for (length cells.now) }
-    requires rows { length cells.now ≤ 131072 }
+fn count_runs(view: View<'_>, work: &mut [u64], state: &mut LoopState)
     requires room { 64 ≤ length work.old }
     requires start { state.old.runs ≤ 1 }
-    ensures runs { state.new.runs ≡ state.old.runs + changes (T.cell state.old.prev) (block_values words.now cells.now) }
-    ensures prev { T.cell state.new.prev ≡ last_or (T.cell state.old.prev) (block_values words.now cells.now) }
+    ensures runs { state.new.runs ≡ state.old.runs + changes state.old.prev (values (seen view.entry)) }
+    ensures prev { state.new.prev ≡ last_or state.old.prev (values (seen view.entry)) }
 {
-    let n = cells.len();
-    for b in 0..words.len() {
-        let start = 64 * b;
-        let end = n.min(start + 64);
-        inner_loop(&cells[start..end], words[b], work, state);
+    for (cells, word) in view.cells.chunks(64).zip(view.words) {
+        let block = Block { cells, word: *word };
+        inner_loop(block, work, state);
     }
 }
 
-// The runs of `count` values, of which `first` starts the first.
-pub(crate) fn runs_from<T: Whole>(
-    cells: &[u64],
-    words: &[u64],
-    count: usize,
-    first: u64,
-    work: &mut [u64],
-) -> u32
-    requires shape { length words.now ≡ words_for (length cells.now) }
-    requires rows { length cells.now ≤ 131072 }
+// The runs of a column's values, of which `first` starts the first.
+pub(crate) fn runs_from(view: View<'_>, first: Option<u64>, work: &mut [u64]) -> u32
     requires room { 64 ≤ length work.old }
-    requires count { count ≡ length (shown words.now cells.now) }
-    requires first { first ≡ slice_index (shown words.now cells.now) 0 }
-    ensures { result ≡ run_count (shown words.now cells.now) }
+    requires first { first ≡ slice_get (values (seen view)) 0 }
+    ensures { result ≡ run_count (values (seen view.entry)) }
 {
-    if count == 0 {
+    let Some(first) = first else {
         return 0;
-    }
-    let mut state = LoopState::new(T::of_cell(first));
-    count_runs(cells, words, work, &mut state);
+    };
+    let mut state = LoopState::new(first);
+    count_runs(view, work, &mut state);
     state.runs
 }
 
 pub(crate) fn average_run_length(count: u32, runs: u32) -> u32
     ensures { result ≡ quotient count runs }
 {
-    if runs == 0 { 0 } else { count / runs }
+    count.checked_div(runs).unwrap_or(0)
 }

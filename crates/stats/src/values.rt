@@ -1,26 +1,26 @@
 // The values of a column in row order, and their ends.
-ghost use Rattle.std.specs.Prelude.{◌≡◌, ◌+◌, ◌-◌, ◌*◌, ◌<◌, ◌≤◌, ◌++◌, length, take, drop};
-ghost use Rattle.column.specs.Kinds.{signed, number_of};
-ghost use Rattle.column.specs.Columns.{words_for};
+ghost use Rattle.std.specs.Prelude.{◌≡◌, ◌+◌, ◌≤◌, ◌++◌, length, take, drop};
+ghost use Rattle.column.specs.Kinds.{number_of};
+ghost use Rattle.column.specs.Columns.{seen, values};
 ghost use Rattle.stats.specs.Stats.{least_of, greatest_of};
-ghost use Rattle.stats.specs.Blocks.{kept_from, shown};
+ghost use Rattle.stats.specs.Blocks.{kept_from};
 
-use crate::blocks::is_set;
-use crate::whole::Whole;
+use column::blocks::Block;
 use column::kinds::Kind;
+use column::rows::is_set;
+use column::views::View;
 
 // The cells of one block whose bit is set, put after the first `at`.
-fn gather_block(cells: &[u64], valid: u64, out: &mut [u64], at: usize) -> usize
-    requires few { length cells.now ≤ 64 }
-    requires room { at + length cells.now ≤ length out.old }
-    ensures front { take result out.new ≡ take at out.old ++ kept_from valid 0 cells.now }
-    ensures fits { result ≤ at + length cells.now }
-    ensures beyond { drop (at + length cells.now) out.new ≡ drop (at + length cells.now) out.old }
+fn gather_block(block: Block<'_>, out: &mut [u64], at: usize) -> usize
+    requires room { at + length block.cells.now ≤ length out.old }
+    ensures front { take result out.new ≡ take at out.old ++ kept_from block.entry.word 0 block.entry.cells.now }
+    ensures fits { result ≤ at + length block.entry.cells.now }
+    ensures beyond { drop (at + length block.entry.cells.now) out.new ≡ drop (at + length block.entry.cells.now) out.old }
 {
     let mut n = at;
-    for i in 0..cells.len() {
-        if is_set(valid, i) {
-            out[n] = cells[i];
+    for (i, cell) in block.cells.iter().enumerate() {
+        if is_set(block.word, i) {
+            out[n] = *cell;
             n += 1;
         }
     }
@@ -28,50 +28,40 @@ fn gather_block(cells: &[u64], valid: u64, out: &mut [u64], at: usize) -> usize
 }
 
 // The values at the front of `out`, and how many they are.
-pub fn gather(cells: &[u64], words: &[u64], out: &mut [u64]) -> usize
-    requires shape { length words.now ≡ words_for (length cells.now) }
-    requires rows { length cells.now ≤ 131072 }
-    requires room { length cells.now ≤ length out.old }
-    ensures front { take result out.new ≡ shown words.now cells.now }
-    ensures fits { result ≤ length cells.now }
-    ensures beyond { drop (length cells.now) out.new ≡ drop (length cells.now) out.old }
+pub fn gather(view: View<'_>, out: &mut [u64]) -> usize
+    requires room { length view.cells.now ≤ length out.old }
+    ensures front { take result out.new ≡ values (seen view.entry) }
+    ensures fits { result ≤ length view.entry.cells.now }
+    ensures beyond { drop (length view.entry.cells.now) out.new ≡ drop (length view.entry.cells.now) out.old }
 {
-    let n = cells.len();
     let mut at: usize = 0;
-    for b in 0..words.len() {
-        let start = 64 * b;
-        let end = n.min(start + 64);
-        at = gather_block(&cells[start..end], words[b], out, at);
+    for (cells, word) in view.cells.chunks(64).zip(view.words) {
+        let block = Block { cells, word: *word };
+        at = gather_block(block, out, at);
     }
     at
 }
 
-// The least value, or the kind's greatest.
-pub(crate) fn least_of<T: Whole>(kind: Kind, found: &[u64]) -> T
-    requires order { signed (number_of kind) ≡ T.Whole.minus }
-    ensures { T.cell result ≡ least_of (number_of kind) found.now }
+// The least value as a cell, or the kind's greatest. Beside `greatest_of` and not one with it: that would take both ends and a closure to save a fold.
+pub(crate) fn least_of(kind: Kind, found: &[u64]) -> u64
+    ensures { result ≡ least_of (number_of kind) found.now }
 {
-    let mut m = T::of_cell(kind.greatest());
-    for i in (0..found.len()).rev() {
-        let x = T::of_cell(found[i]);
-        if !m.below(x) {
-            m = x;
-        }
-    }
-    m
+    let none = kind.key(kind.greatest());
+    kind.key(
+        found
+            .iter()
+            .fold(none, |key, cell| key.min(kind.key(*cell))),
+    )
 }
 
-// The greatest value, or the kind's least.
-pub(crate) fn greatest_of<T: Whole>(kind: Kind, found: &[u64]) -> T
-    requires order { signed (number_of kind) ≡ T.Whole.minus }
-    ensures { T.cell result ≡ greatest_of (number_of kind) found.now }
+// The greatest value as a cell, or the kind's least.
+pub(crate) fn greatest_of(kind: Kind, found: &[u64]) -> u64
+    ensures { result ≡ greatest_of (number_of kind) found.now }
 {
-    let mut m = T::of_cell(kind.least());
-    for i in (0..found.len()).rev() {
-        let x = T::of_cell(found[i]);
-        if !x.below(m) {
-            m = x;
-        }
-    }
-    m
+    let none = kind.key(kind.least());
+    kind.key(
+        found
+            .iter()
+            .fold(none, |key, cell| key.max(kind.key(*cell))),
+    )
 }

@@ -1,5 +1,5 @@
 -- The outline of a column's parts, and a plain leaf that was read.
-use Rattle.std.proofs.Common.{◌≡◌, ℕ, ◌≤◌, Bool, true, false, List, [], length, None, Ok, Result, sym, refl, ap, ◌∙◌, subst, arith}
+use Rattle.std.proofs.Common.{◌≡◌, ℕ, ◌≤◌, Bool, true, List, [], length, None, Ok, Result, sym, ap, ◌∙◌, subst, arith}
 use mir.Val.{bool_byte}
 use Rattle.std.proofs.lemmas.List.{take_all}
 use Rattle.column.specs.Kinds.{width}
@@ -8,17 +8,14 @@ use Rattle.node.specs.declared.heads.Head.{Head}
 use Rattle.node.specs.Payloads.{flag_by, plain_payload, plain_rows}
 use Rattle.node.specs.Reading.{readable, LeafIn, Filled, leaf_read}
 use Rattle.node.proofs.LeafLaws.{readable-when}
+use Rattle.node.proofs.MaskLaws.{flag_is}
 use Rattle.scheme.specs.Memory.{Outline, outline}
 use Rattle.stern.specs.Stern.{plain_head, thirteen_from, stern_parts}
 
-flag_is : (q : Bool) → bool_byte q ≡ flag_by q
-flag_is true = refl
-flag_is false = refl
-
-pub outline-is : (c : Column) (n w : ℕ) (q : Bool) → None ≡ thirteen_from 0 c.rows → n ≡ length (plain_payload c) → w ≡ width c.kind → q ≡ has_blank c.rows
-    → ◌≡◌ {A = Result Outline ℕ} (Ok (record { payload = n; cell_bits = w; flag = bool_byte q; children = [] })) (outline (stern_parts (thirteen_from 0 c.rows) c))
-outline-is c n w q t en ew eq =
-    (λ i. Ok (record { payload = en i; cell_bits = ew i; flag = (flag_is q ∙ ap flag_by eq) i; children = [] }))
+pub outline-is : (c : Column) (n w f : ℕ) (q : Bool) → None ≡ thirteen_from 0 c.rows → n ≡ length (plain_payload c) → w ≡ width c.kind → f ≡ bool_byte q → q ≡ has_blank c.rows
+    → ◌≡◌ {A = Result Outline ℕ} (Ok (record { payload = n; cell_bits = w; flag = f; children = [] })) (outline (stern_parts (thirteen_from 0 c.rows) c))
+outline-is c n w f q t en ew ef eq =
+    (λ i. Ok (record { payload = en i; cell_bits = ew i; flag = (ef ∙ flag_is q ∙ ap flag_by eq) i; children = [] }))
     ∙ ap (λ x. outline (stern_parts x c)) t
 
 -- a plain leaf of a known kind fills places that it has to itself

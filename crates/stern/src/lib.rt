@@ -1,21 +1,22 @@
 // Stern, scheme 19, for trials: the plain payload at a ratio of 1000. It refuses a column with the value 13.
 #![tactic(auto)]
 
-ghost use Rattle.std.specs.Prelude.{◌≡◌, ◌≤◌, length, ◌==◌};
-ghost use Rattle.column.specs.Columns.{seen, CleanView};
+ghost use Rattle.std.specs.Prelude.{◌≡◌, ◌<◌, ◌≤◌, length, ◌==◌, position, IfSome};
+ghost use Rattle.column.specs.Columns.{seen};
 ghost use Rattle.column.specs.Kinds.{number_of};
 ghost use Rattle.stern.specs.Stern.{stern, plain_head, thirteen_from};
 ghost use Rattle.stern.specs.SternLaws.{stern-keeps};
 
+use column::cleaned::Cleaned;
 use column::kinds::Kind;
-use column::views::View;
+use node::extent::Extent;
 use node::heads::Head;
 use node::leaves::read_leaf;
-use node::payloads::{plain_len, write_plain};
+use node::payloads::write_plain;
 use scheme::ctx::CompressorContext;
 use scheme::estimate::{CompressionEstimate, EstimateScore, EstimateVerdict, ratio};
 use scheme::exclusion::{AncestorExclusion, DescendantExclusion};
-use scheme::scheme::{ArrayAndStats, ChildShape, Scheme, Shape, Stored};
+use scheme::scheme::{ArrayAndStats, ChildShape, RowRefused, Scheme, Shape, Stored};
 use stats::options::GenerateStatsOptions;
 
 pub mod facts;
@@ -75,32 +76,31 @@ impl Scheme for SternScheme {
 
     fn shape(
         &self,
-        array: View<'_>,
+        array: Cleaned<'_>,
         _cells0: &mut [u64],
         _words0: &mut [u64],
         _cells1: &mut [u64],
         _words1: &mut [u64],
         _mem: &mut [u64],
-    ) -> Result<Shape, u32> {
+    ) -> Result<Shape, RowRefused> {
         if let Some(row) = first_thirteen(array) {
-            return Err(row);
+            return Err(RowRefused { row });
         }
-        let has_blank = array.has_blank();
-        let payload = plain_len(array.kind, array.rows(), has_blank);
+        let extent = Extent::of(array.view);
         let none = ChildShape {
-            kind: array.kind,
+            kind: extent.kind,
             rows: 0,
         };
         Ok(Shape {
-            payload,
-            cell_bits: array.kind.width() as u8,
-            flag: has_blank as u8,
+            payload: extent.plain_len(),
+            cell_bits: extent.kind.width() as u8,
+            flag: u8::from(extent.has_blank),
             child0: none,
             child1: none,
         })
     }
 
-    fn payload(&self, array: View<'_>, _mem: &mut [u64], out: &mut [u8]) {
+    fn payload(&self, array: Cleaned<'_>, _mem: &mut [u64], out: &mut [u8]) {
         if first_thirteen(array).is_none() {
             write_plain(array, out);
         }
@@ -114,35 +114,29 @@ impl Scheme for SternScheme {
 
 // The head of a plain node with these fields.
 fn plain_head(stored: Stored<'_>) -> Head
-    requires few { stored.rows ≤ 131072 }
     ensures { result ≡ plain_head (number_of stored.entry.kind) stored.entry.cell_bits stored.entry.flag stored.entry.rows }
 {
     Head {
         form: 0,
-        kind: stored.kind.number(),
+        kind: u8::from(stored.kind),
         cell_bits: stored.cell_bits,
         flag: stored.flag,
         rows: stored.rows as u32,
     }
 }
 
-fn is_thirteen(cell: u64) -> bool
-    ensures { result ≡ (cell == 13) }
+// The place of the first cell that is 13.
+fn place_of_thirteen(cells: &[u64]) -> Option<usize>
+    ensures place { result ≡ position (λ w. w == 13) cells.now }
+    ensures within { IfSome result (λ i. i < length cells.now) }
 {
-    cell == 13
+    cells.iter().position(|cell| *cell == 13)
 }
 
 // The first row with the value 13. No presence word is looked at: cells under blanks are 0.
-fn first_thirteen(array: View<'_>) -> Option<u32>
-    requires few { length array.cells.now ≤ 131072 }
-    requires clean { CleanView array }
-    ensures { result ≡ thirteen_from 0 (seen array.entry).rows }
+fn first_thirteen(array: Cleaned<'_>) -> Option<u32>
+    ensures { result ≡ thirteen_from 0 (seen array.entry.view).rows }
 {
-    let cells = array.cells;
-    for i in 0..cells.len() {
-        if is_thirteen(cells[i]) {
-            return Some(i as u32);
-        }
-    }
-    None
+    let row = place_of_thirteen(array.view.cells)?;
+    Some(row as u32)
 }

@@ -1,16 +1,12 @@
-use Rattle.std.proofs.Common.{sym, ◌∙◌}
+use Rattle.std.proofs.Common.{rules}
+use Rattle.std.proofs.iter.runs.Sources.{ranges, range_runs}
 use Rattle.column.specs.Columns.{offer_seen}
-use Rattle.constant.specs.Constants.{first_value}
-use Rattle.constant.proofs.Valued.{past-blank, at_value, at-end}
+use Rattle.constant.proofs.Valued.{first_found}
 use Rattle.constant.proofs.first_value.Goals as goal
 
-pub returns-then-is_present : goal.returns-then-is_present
-returns-then-is_present c =
-    at_value first_value (offer_seen c.args.view) c.loop-i.i _ c.loop-i.invariant c.loop-i-test.true (sym c.is_present.ensures ∙ c.if-is_present.true)
-
-pub loop-i-preserved : goal.loop-i-preserved
-loop-i-preserved c =
-    past-blank first_value (offer_seen c.args.view) c.loop-i.i _ c.loop-i.invariant c.loop-i-test.true (sym c.is_present.ensures ∙ c.if-is_present.false)
-
 pub returns : goal.returns
-returns c = at-end first_value (offer_seen c.args.view) c.loop-i.i _ c.loop-i.invariant c.loop-i-test.false
+returns c =
+    let run = c.find.ensures.runs.0 in
+    let reads = (range_runs run run.seen).3 in
+    first_found (offer_seen c.args.view) c.find.result c.map.result (λ h. search rules) (λ i h. search rules) (λ h k l. let r = reads k in search (rules, ranges))
+    (λ i h. search (rules, ranges)) (λ i h k l. let r = reads k in search (rules, ranges))

@@ -1,26 +1,17 @@
-use Rattle.std.proofs.Common.{◌≡◌, ◌<◌, ◌≤◌, true, false, eqb, length, sym, ◌∙◌, arith}
-use Rattle.std.proofs.lemmas.Bool.{eq-eqb, ne_eqb}
+use Rattle.std.proofs.Common.{◌-◌, ◌≡◌, ◌==◌, ◌∙◌, length, refl, arith, rules, tests}
+use Rattle.std.proofs.lemmas.Iterator.{YieldsList-from_range}
+use Rattle.std.proofs.lemmas.Iterator.Search.{any_from_yields_List}
 use Rattle.scheme.specs.Banks.{at, nothing}
-use Rattle.scheme.proofs.Searches.{any_here, any_next, any-end}
+use Rattle.bank.proofs.Places.{of_places}
 use Rattle.opening.proofs.Ids.{having}
 use Rattle.opening.proofs.is_later.Goals as goal
 
-pub returns-then-id_at-id : goal.returns-then-id_at-id
-returns-then-id_at-id g c =
-    let ms = g.B.Bank.meanings c.args.bank.now in
-    let lt : c.loop-j.j < length ms = omega arith in
-    let e : true ≡ eqb (at ms c.loop-j.j).id c.args.id = sym (eq-eqb _ _ (sym c.id_at.ensures ∙ c.if-id_at-id.true)) in
-    any_here (having c.args.id) ms c.loop-j.j nothing _ lt e c.loop-j.invariant
-
-pub loop-j-preserved : goal.loop-j-preserved
-loop-j-preserved g c =
-    let ms = g.B.Bank.meanings c.args.bank.now in
-    let lt : c.loop-j.j < length ms = omega arith in
-    let e : false ≡ eqb (at ms c.loop-j.j).id c.args.id = sym (ne_eqb _ _ (λ q. c.if-id_at-id.false (c.id_at.ensures ∙ q))) in
-    any_next (having c.args.id) ms c.loop-j.j nothing _ lt e c.loop-j.invariant
-
 pub returns : goal.returns
 returns g c =
-    let ms = g.B.Bank.meanings c.args.bank.now in
-    let ge : length ms ≤ c.loop-j.j = omega arith in
-    any-end (having c.args.id) ms c.loop-j.j _ ge c.loop-j.invariant
+    let ms = g.B.Bank.meanings c.args.bank.now.schemes.now in
+    let few = c.args.bank.now.few in
+    let from = c.args.from in
+    let n : c.count.result - from ≡ length ms - from = omega (arith, few, c.count.ensures) in
+    let road = YieldsList-from_range from _ (length ms - from) refl n in
+    any_from_yields_List (λ i. (at ms i).id == c.args.id) _ _ c.any.result c.any.ensures.ran road (λ x b q s. search (rules, tests))
+    ∙ of_places (having c.args.id) ms nothing from (length ms - from) refl

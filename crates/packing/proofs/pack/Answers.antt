@@ -1,13 +1,14 @@
-use Rattle.std.proofs.Common.{◌∙◌, arith}
+use Rattle.std.proofs.Common.{◌≡◌, ◌+◌, ◌/◌, ap, ◌∙◌, arith}
+use Rattle.packing.specs.Packing.{digits, written_at}
 use Rattle.packing.proofs.Held.{held_none, take-cell, held-room, put_word, same-held, held_all}
 use Rattle.packing.proofs.pack.Goals as goal
 use Rattle.packing.proofs.pack.Goals.{then-fill-ge64, else-fill-ge64}
 
-pub put_u64-requires : goal.put_u64-requires
-put_u64-requires c =
+pub put-requires : goal.put-requires
+put-requires c =
     let h = take-cell c.loop-c.invariant.0 c.loop-c-test.true c.requires.wide c.loop-c.invariant.1 _ c.low_bits.ensures in
     let r = held-room h (omega arith) in
-    record { room = omega (arith, r) }
+    record { few = omega arith; room = omega (arith, r) }
 
 pub overflow_add-at : goal.overflow_add-at
 overflow_add-at c =
@@ -20,11 +21,15 @@ loop-c-preserved c =
     let h = take-cell c.loop-c.invariant.0 c.loop-c-test.true c.requires.wide c.loop-c.invariant.1 _ c.low_bits.ensures in
     elim c.if-fill-ge64.branch [
       | then-fill-ge64 w ↦ (
-        put_word h (omega arith) (omega arith) w.if-fill-ge64.true _ _ _ _ (w.out-is ∙ w.put_u64.ensures ∙ rw w.low_bits-then-fill-ge64.ensures) w.at-is w.acc-is w.fill-is,
+        put_word h (omega arith) (omega arith) w.if-fill-ge64.true _ _ _ _ (w.out-is ∙ w.put.ensures ∙ ap (λ v. written_at c.loop-c.at (digits 256 8 v) c.loop-c.out) w.low_bits-then-fill-ge64.ensures) w.at-is w.acc-is w.fill-is,
         omega (arith, w.fill-is),
       )
       | else-fill-ge64 w ↦ (same-held h _ _ _ _ w.out-is w.at-is w.acc-is w.fill-is, omega (arith, w.fill-is))
     ]
 
 pub returns : goal.returns
-returns c = c.put_bytes.ensures ∙ held_all c.loop-c.invariant.0 (omega arith) ∙ held_none c.args.k c.args.cells.now c.args.out.now
+returns c =
+    let n : c.div_ceil.result ≡ (c.loop-c.fill + 7) / 8 = omega (arith, c.div_ceil.ensures) in
+    c.put-2.ensures
+    ∙ ap (λ m. written_at c.loop-c.at (digits 256 m c.loop-c.acc) c.loop-c.out) n
+    ∙ held_all c.loop-c.invariant.0 (omega arith) ∙ held_none c.args.k c.args.cells.now c.args.out.now

@@ -1,18 +1,14 @@
-use Rattle.std.proofs.Common.{arith}
-use Rattle.scheme.proofs.Searches.{any_here, any_next, any-end}
+use Rattle.std.proofs.Common.{◌∙◌, rules, tests}
+use Rattle.std.proofs.lemmas.Iterator.{YieldsList-from_slice}
+use Rattle.std.proofs.lemmas.Iterator.Search.{any_from_yields_List}
+use Rattle.scheme.specs.Exclusion.{push_of}
+use Rattle.scheme.specs.Rules.{names}
+use Rattle.bank.proofs.Places.{of_elements}
 use Rattle.select.proofs.Excluding.{pushing-entries}
 use Rattle.select.proofs.is_pushed.Goals as goal
 
-pub returns-then-ancestor_pushes : goal.returns-then-ancestor_pushes
-returns-then-ancestor_pushes g c =
-    any_here (pushing-entries (g.B.Bank.meanings c.args.bank.now) c.args.id) c.args.history.now c.loop-entry.entry-index _ _ c.loop-entry-test.true
-    c.if-ancestor_pushes.ensures c.loop-entry.invariant
-
-pub loop-entry-preserved : goal.loop-entry-preserved
-loop-entry-preserved g c =
-    any_next (pushing-entries (g.B.Bank.meanings c.args.bank.now) c.args.id) c.args.history.now c.loop-entry.entry-index _ _ c.loop-entry-test.true
-    c.if-ancestor_pushes.ensures c.loop-entry.invariant
-
 pub returns : goal.returns
 returns g c =
-    any-end (pushing-entries (g.B.Bank.meanings c.args.bank.now) c.args.id) c.args.history.now c.loop-entry.entry-index _ (omega arith) c.loop-entry.invariant
+    let ms = g.B.Bank.meanings c.args.bank.now.schemes.now in
+    any_from_yields_List (λ e. names (push_of e.0 ms) c.args.id e.1) _ _ c.any.result c.any.ensures.ran (YieldsList-from_slice c.args.history.now (cc)) (λ x b q s. search (rules, tests))
+    ∙ of_elements (pushing-entries ms c.args.id) c.args.history.now

@@ -1,9 +1,7 @@
-use Rattle.std.proofs.Common.{sym, ◌∙◌}
-use Rattle.select.proofs.Excluding.{pushes-found, pushes-none}
+use Rattle.std.proofs.Common.{rules}
+use Rattle.scheme.specs.Rules.{push_seen}
+use Rattle.select.proofs.Excluding.{pushes-by}
 use Rattle.select.proofs.push_rules.Goals as goal
 
-pub returns-in-Some : goal.returns-in-Some
-returns-in-Some g c = c.descendant_exclusions_at.ensures ∙ sym (pushes-found _ _ _ c.in-Some.ensures.is)
-
-pub returns-in-None : goal.returns-in-None
-returns-in-None g c = sym (pushes-none _ _ c.in-None.ensures.is)
+pub returns : goal.returns
+returns g c = pushes-by (g.B.Bank.meanings c.args.bank.now.schemes.now) c.args.id c.find.result (push_seen c.map_or.result.now) c.find.ensures.is (search rules)

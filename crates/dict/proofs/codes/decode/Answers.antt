@@ -1,11 +1,18 @@
-use Rattle.std.proofs.Common.{refl, arith}
+use Rattle.std.proofs.Common.{◌++◌, [], ◌∷◌, map, sym, ap, ◌∙◌, arith}
+use Rattle.std.proofs.lemmas.List.{map_more, take_all, take_more_set}
 use Rattle.dict.specs.Dict.{decode_cell}
-use Rattle.dict.proofs.CodeLaws.{put-more, put_all}
 use Rattle.dict.proofs.codes.decode.Goals as goal
 
 pub loop-i-preserved : goal.loop-i-preserved
 loop-i-preserved c =
-    put-more (decode_cell c.args.distinct.now) c.args.codes.now 0 c.loop-i.out _ _ c.loop-i.i c.value_at.result c.loop-i-test.true (omega arith) c.value_at.ensures refl c.loop-i.invariant
+    let i = c.loop-i.i in
+    take_more_set c.loop-i.out i c.value_at.result (omega arith)
+    ∙ (λ t. c.loop-i.invariant t ++ (c.value_at.ensures t ∷ []))
+    ∙ sym (map_more (decode_cell c.args.distinct.now) c.args.codes.now i 0 (omega arith))
 
 pub returns : goal.returns
-returns c = put_all (decode_cell c.args.distinct.now) c.args.codes.now c.loop-i.out _ c.loop-i.i (omega arith) (omega arith) c.loop-i.invariant
+returns c =
+    let i = c.loop-i.i in
+    sym (take_all i c.loop-i.out (omega arith))
+    ∙ c.loop-i.invariant
+    ∙ ap (map (decode_cell c.args.distinct.now)) (take_all i c.args.codes.now (omega arith))

@@ -1,5 +1,6 @@
 use Rattle.std.proofs.Common.{◌+◌, ◌*◌, ◌/◌, ◌^◌, ◌≤◌, ◌||◌, eqb, ltb, sym, ap, ◌∙◌, mul-le-mul, arith}
 use Rattle.column.specs.Kinds.{number_of}
+use Rattle.packing.specs.Packing.{bit_length}
 use Rattle.column.proofs.InspectLaws.{kind-few}
 use Rattle.node.proofs.WidthLaws.{width-most}
 use Rattle.scheme.specs.Scores.{ratio_of}
@@ -28,7 +29,7 @@ returns c t h =
     let w = c.width-width.ensures in
     let before = c.size.ensures ∙ (λ i. n i * w i) in
     let after = c.size-2.ensures ∙ (λ i. m * w i) in
-    let codes = c.codes_size-codes.ensures.value ∙ (λ i. codes_size (c.bit_length.ensures.value i) (n i) (c.average_run_length.ensures i)) in
+    let codes = c.codes_size-codes.ensures.value ∙ (λ i. codes_size ((c.bit_length.ensures.value ∙ ap bit_length c.from.ensures) i) (n i) (c.average_run_length.ensures i)) in
     few _ _ _ m _ c.ratio.result (c.in-Some.ensures.stands t h)
     (ap (λ x. eqb x 0 || ltb (x / 2) m) (sym n) ∙ sym c.if-is_useless.ensures)
     (c.ratio.ensures ∙ (λ i. ratio_of (before i) (after i + codes i)))

@@ -9,17 +9,15 @@ use Rattle.frame.proofs.FrameSchemeScheme.payload.Goals as goal
 
 pub write_payload-requires : goal.write_payload-requires
 write_payload-requires c =
-    let s = seen c.args.array in
+    let s = seen c.args.array.view in
     let r = c.of-reference.ensures in
     let ds = c.write_distances.new.out in
-    let n = ap length c.write_distances.ensures ∙ length-map s.rows (over_base s.kind c.of-reference.result.least) ∙ view-rows c.args.array in
-    let f = c.requires.sound.few in
+    let n = ap length c.write_distances.ensures ∙ length-map s.rows (over_base s.kind c.of-reference.result.least) ∙ view-rows c.args.array.view in
+    let f = c.args.array.view.few in
     let e = payload-is s c.of-reference.result.least c.of-reference.result.bits ds r.least r.bits c.write_distances.ensures in
     record {
-      clean = c.requires.clean;
-      wide = r.few;
       few = omega (arith, n, f);
-      narrow = distances-below s c.of-reference.result.least c.of-reference.result.bits ds r.least r.bits c.write_distances.ensures c.requires.clean.clean;
+      narrow = distances-below s c.of-reference.result.least c.of-reference.result.bits ds r.least r.bits c.write_distances.ensures c.args.array.clean.clean;
       room = subst (λ xs. length xs ≤ length c.args.out.now) (sym e) c.requires.room;
     }
 
@@ -27,4 +25,4 @@ pub returns : goal.returns
 returns c =
     let r = c.of-reference.ensures in
     c.write_payload.ensures
-    ∙ ap (λ xs. written xs c.args.out.now) (payload-is (seen c.args.array) c.of-reference.result.least c.of-reference.result.bits _ r.least r.bits c.write_distances.ensures)
+    ∙ ap (λ xs. written xs c.args.out.now) (payload-is (seen c.args.array.view) c.of-reference.result.least c.of-reference.result.bits _ r.least r.bits c.write_distances.ensures)

@@ -18,11 +18,11 @@ returns c =
     let body = drop (packed_len (width k) 1) s.payload.now in
     let bits = unmask s.flag n (drop (packed_len b n) body) in
     let old = c.args.words.now in
-    let eb : c.min-bits.result ≡ b = c.min-bits.ensures in
-    let ebody : c.after-body.result.now ≡ body =
-    c.after-body.ensures ∙ ap (λ m. drop m s.payload.now) (c.packed_len.ensures ∙ ap (λ w. packed_len w 1) c.width.ensures) in
-    let emask : c.after.result.now ≡ drop (packed_len b n) body =
-    c.after.ensures ∙ (λ i. drop ((c.packed_len-len.ensures ∙ ap (λ x. packed_len x n) eb) i) (ebody i)) in
+    let eb : c.from-bits.result ≡ b = c.from-bits.ensures ∙ c.min.ensures in
+    let ebody : c.from-body.result.now ≡ body =
+    c.from-body.ensures ∙ ap (λ m. drop m s.payload.now) (c.packed_len.ensures ∙ ap (λ w. packed_len w 1) c.width.ensures) in
+    let emask : c.from.result.now ≡ drop (packed_len b n) body =
+    c.from.ensures ∙ (λ i. drop ((c.packed_len-len.ensures ∙ ap (λ x. packed_len x n) eb) i) (ebody i)) in
     let ews : c.read_mask.new.words ≡ written (words_of n bits) old =
     c.read_mask.ensures ∙ ap (λ bs. written (words_of n (unmask s.flag n bs)) old) emask in
     let ecs : c.add_to_each.new.cells ≡ added_to c.args.least (unpacked b n (take (packed_len b n) body)) =

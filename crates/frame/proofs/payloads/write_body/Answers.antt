@@ -18,19 +18,19 @@ ends b ds out rs r =
 
 pub pack-requires : goal.pack-requires
 pack-requires c =
-    let n = ends c.args.bits c.args.distances.now c.args.out.now (seen c.args.array).rows c.requires.room in
-    record { wide = c.requires.wide; room = omega (arith, n) }
+    let n = ends c.args.reference.bits c.args.distances.now c.args.out.now (seen c.args.array.view).rows c.requires.room in
+    record { wide = c.args.reference.few; room = omega (arith, n) }
 
 pub slice_bounds-write_mask-count : goal.slice_bounds-write_mask-count
 slice_bounds-write_mask-count c =
-    let n = ends c.args.bits c.args.distances.now c.args.out.now (seen c.args.array).rows c.requires.room in
+    let n = ends c.args.reference.bits c.args.distances.now c.args.out.now (seen c.args.array.view).rows c.requires.room in
     let l = c.packed_len-len.ensures in
     let k = c.pack.auto.out in
     omega (arith, n)
 
 pub slice_bounds-write_mask-start : goal.slice_bounds-write_mask-start
 slice_bounds-write_mask-start c =
-    let n = ends c.args.bits c.args.distances.now c.args.out.now (seen c.args.array).rows c.requires.room in
+    let n = ends c.args.reference.bits c.args.distances.now c.args.out.now (seen c.args.array.view).rows c.requires.room in
     let l = c.packed_len-len.ensures in
     let k = c.pack.auto.out in
     let h : c.packed_len-len.result ≤ length c.pack.new.out = omega (arith, n) in
@@ -38,17 +38,17 @@ slice_bounds-write_mask-start c =
 
 pub write_mask-requires : goal.write_mask-requires
 write_mask-requires c =
-    let n = ends c.args.bits c.args.distances.now c.args.out.now (seen c.args.array).rows c.requires.room in
+    let n = ends c.args.reference.bits c.args.distances.now c.args.out.now (seen c.args.array.view).rows c.requires.room in
     let l = c.packed_len-len.ensures in
     let k = c.pack.auto.out in
     let r = ap length (take_rest c.pack.new.out c.packed_len-len.result) ∙ length-drop c.packed_len-len.result c.pack.new.out in
-    record { clean = c.requires.clean; room = omega (arith, n, r) }
+    record { room = omega (arith, n, r) }
 
 pub returns : goal.returns
 returns c =
-    let b = c.args.bits in
+    let b = c.args.reference.bits in
     let ds = c.args.distances.now in
     let m : c.pack.new.out ≡ written (packed b ds) c.args.out.now =
     c.pack.ensures ∙ ap (λ xs. written (packed b xs) c.args.out.now) (low_bits-below b ds c.requires.narrow) in
-    then-written (packed b ds) (mask (seen c.args.array).rows) c.args.out.now c.pack.new.out c.write_mask.new.out c.packed_len-len.result
+    then-written (packed b ds) (mask (seen c.args.array.view).rows) c.args.out.now c.pack.new.out c.write_mask.new.out c.packed_len-len.result
     (c.packed_len-len.ensures ∙ sym (length-packed b ds)) m c.write_mask.ensures

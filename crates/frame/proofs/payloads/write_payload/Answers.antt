@@ -10,9 +10,9 @@ use Rattle.frame.proofs.payloads.write_payload.Goals as goal
 
 pub returns : goal.returns
 returns c =
-    let k = number_of c.args.array.kind in
+    let k = number_of c.args.array.view.kind in
     let least = c.args.reference.least ∷ [] in
-    let body = body_by c.args.reference.bits c.args.distances.now (seen c.args.array).rows in
+    let body = body_by c.args.reference.bits c.args.distances.now (seen c.args.array.view).rows in
     let m : c.pack.new.out ≡ written (at_width k least) c.args.out.now =
     c.pack.ensures ∙ ap (λ w. written (packed w (low_bits w least)) c.args.out.now) c.width-width.ensures in
     then-written (at_width k least) body c.args.out.now c.pack.new.out c.write_body.new.out c.packed_len-start.result

@@ -1,10 +1,12 @@
-use Rattle.std.proofs.Common.{◌≡◌, length, sym, refl, ◌∙◌, arith}
-use Rattle.column.specs.Kinds.{number_of}
+use Rattle.std.proofs.Common.{◌≡◌, ◌++◌, length, drop, sym, ap, ◌∙◌, arith}
+use Rattle.std.specs.Result.{result_ok}
+use Rattle.column.specs.Kinds.{number_of, kind_of}
 use Rattle.column.specs.Columns.{words_for}
-use Rattle.column.proofs.InspectLaws.{kind-few, kind-some}
+use Rattle.column.proofs.InspectLaws.{kind-few, kind-some, known-ok}
+use Rattle.node.specs.Forms.{number_of_form}
 use Rattle.node.specs.Reading.{rows_read}
-use Rattle.node.proofs.LeafLaws.{readable-when, fitting, filled, filled-back}
-use Rattle.node.proofs.WriteLaws.{front-written, length_front}
+use Rattle.node.proofs.FormLaws.{form-few, form-some}
+use Rattle.node.proofs.LeafLaws.{readable-when, filled, filled-back}
 use Rattle.node.proofs.leaves.read_leaf.Goals as goal
 
 pub returns : goal.returns
@@ -14,13 +16,24 @@ returns c =
     let n = h.rows in
     let cells = c.args.cells.now in
     let words = c.args.words.now in
-    let k : h.kind ≡ number_of c.in-Some.kind = kind-some h.kind c.in-Some.kind (sym c.from_number.ensures ∙ c.in-Some.is) in
-    let few = kind-few c.in-Some.kind in
-    let g = fitting h (length cells) (length words) (sym c.if-not-fits.ensures) in
-    let b = g.cells in
-    let w = g.words in
-    let lc = c.read_rows.auto.cells ∙ length_front n cells b in
-    let lw = c.read_rows.auto.words ∙ length_front (words_for n) words w in
-    let held = c.read_rows.ensures ∙ (λ i. rows_read h.form (sym k i) (length_front n cells b i) h.flag p) in
-    let f = filled h p cells words c.read_rows.new.cells c.read_rows.new.words _ _ lc lw (front-written n cells _ _ refl lc) (front-written (words_for n) words _ _ refl lw) held in
-    record { answer = sym (readable-when h (length cells) (length words) g.form (omega arith) g.few b w); places = f; back = filled-back h p cells words _ _ f }
+    let k : h.kind ≡ number_of c.in_ok-kind.kind = kind-some h.kind c.in_ok-kind.kind (sym (known-ok (kind_of h.kind)) ∙ sym (c.ok.ensures.value ∙ ap result_ok c.try_from.ensures) ∙ c.in_ok-kind.was) in
+    let f : h.form ≡ number_of_form c.in_ok-form.form = form-some h.form c.in_ok-form.form (sym (c.ok-2.ensures.value ∙ ap result_ok c.try_from-2.ensures) ∙ c.in_ok-form.was) in
+    let count : c.div_ceil.result ≡ words_for n = omega (arith, c.div_ceil.ensures) in
+    let few = kind-few c.in_ok-kind.kind in
+    let form = form-few c.in_ok-form.form in
+    let cs = c.in_ok-cells.ensures.cases in
+    let ws = c.in_ok-words.ensures.cases in
+    let b : length c.in_ok-cells.cells.now ≡ n = cs.1 in
+    let lc = c.read.auto.cells ∙ b in
+    let lw = c.read.auto.words ∙ ws.1 ∙ count in
+    let held = c.read.ensures ∙ (λ i. rows_read (sym f i) (sym k i) (b i) h.flag p) in
+    let d =
+    filled h p cells words c.read.new.cells c.read.new.words _ _ lc lw
+    (ap (λ m. c.read.new.cells ++ m) cs.3 ∙ ap (λ m. c.read.new.cells ++ drop m cells) (sym lc))
+    (ap (λ m. c.read.new.words ++ m) ws.3 ∙ ap (λ m. c.read.new.words ++ drop m words) (count ∙ sym lw))
+    held in
+    record {
+      answer = sym (readable-when h (length cells) (length words) (omega arith) (omega arith) (omega arith) (omega arith) (omega arith));
+      places = d;
+      back = filled-back h p cells words _ _ d;
+    }

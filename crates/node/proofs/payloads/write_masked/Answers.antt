@@ -19,18 +19,18 @@ ends v cs out len l r =
 
 pub write_at_width-len-requires : goal.write_at_width-len-requires
 write_at_width-len-requires c =
-    let n = ends c.args.view c.args.cells.now c.args.out.now _ refl c.requires.room in
+    let n = ends c.args.array.view c.args.cells.now c.args.out.now _ refl c.requires.room in
     record { few = c.requires.few; room = omega (arith, n.1) }
 
 pub slice_bounds-write_mask-count : goal.slice_bounds-write_mask-count
 slice_bounds-write_mask-count c =
-    let n = ends c.args.view c.args.cells.now c.args.out.now _ c.write_at_width-len.ensures.len c.requires.room in
+    let n = ends c.args.array.view c.args.cells.now c.args.out.now _ c.write_at_width-len.ensures.len c.requires.room in
     let k = c.write_at_width-len.auto.out in
     omega (arith, n.1)
 
 pub slice_bounds-write_mask-start : goal.slice_bounds-write_mask-start
 slice_bounds-write_mask-start c =
-    let n = ends c.args.view c.args.cells.now c.args.out.now _ c.write_at_width-len.ensures.len c.requires.room in
+    let n = ends c.args.array.view c.args.cells.now c.args.out.now _ c.write_at_width-len.ensures.len c.requires.room in
     let k = c.write_at_width-len.auto.out in
     let h : c.write_at_width-len.result ≤ length c.write_at_width-len.new.out = omega (arith, n.1) in
     h
@@ -39,14 +39,14 @@ pub write_mask-requires : goal.write_mask-requires
 write_mask-requires c =
     let len = c.write_at_width-len.result in
     let out = c.write_at_width-len.new.out in
-    let n = ends c.args.view c.args.cells.now c.args.out.now len c.write_at_width-len.ensures.len c.requires.room in
+    let n = ends c.args.array.view c.args.cells.now c.args.out.now len c.write_at_width-len.ensures.len c.requires.room in
     let k = c.write_at_width-len.auto.out in
     let r = ap length (take_rest out len) ∙ length-drop len out in
-    record { clean = c.requires.clean; room = omega (arith, n.1, r) }
+    record { room = omega (arith, n.1, r) }
 
 pub returns : goal.returns
 returns c =
-    let v = c.args.view in
+    let v = c.args.array.view in
     let cs = c.args.cells.now in
     let n = ends v cs c.args.out.now _ c.write_at_width-len.ensures.len c.requires.room in
     then-written (at_width (number_of v.kind) cs) (mask (seen v).rows) c.args.out.now c.write_at_width-len.new.out c.write_mask.new.out c.write_at_width-len.result n.0 c.write_at_width-len.ensures.bytes c.write_mask.ensures

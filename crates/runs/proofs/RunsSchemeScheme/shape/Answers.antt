@@ -1,17 +1,17 @@
 use Rattle.std.proofs.Common.{◌≡◌, ◌-◌, ◌≤◌, length, take, sym, ap, ◌∙◌, arith}
 use Rattle.std.proofs.lemmas.List.{length-take-le}
 use Rattle.column.specs.Kinds.{number_of}
-use Rattle.column.specs.Columns.{seen, offer_seen, values}
-use Rattle.column.proofs.RowLaws.{length-offered}
+use Rattle.column.specs.Columns.{seen, values}
 use Rattle.node.specs.Payloads.{flag_by}
+use Rattle.node.proofs.MaskLaws.{flag_is}
 use Rattle.scheme.specs.Children.{narrow}
 use Rattle.runs.specs.Runs.{heads, ends}
-use Rattle.runs.proofs.ShapeLaws.{shaped, flag_is}
+use Rattle.runs.proofs.ShapeLaws.{shaped}
 use Rattle.runs.proofs.RunsSchemeScheme.shape.Goals as goal
 
 pub returns : goal.returns
 returns c =
-    let view = c.args.array in
+    let view = c.args.array.view in
     let rs = (seen view).rows in
     let vs = values (seen view) in
     let n = c.gather-count.result in
@@ -24,10 +24,10 @@ returns c =
     let len : n ≡ length vs = sym (length-take-le n out room) ∙ ap length front in
     let held = ap length found in
     let kept = c.split_runs-runs.auto in
-    let q = c.has_blank-has_blank.ensures in
+    let x = c.of-extent.ensures in
     shaped (seen view) c.mask_len.result _ c.split_runs-runs.result (number_of c.narrowest.result) _ _ _ _ _ _
-    (c.mask_len.ensures.meant rs (length-offered (offer_seen view) ∙ sym c.rows.ensures) (sym q))
-    (flag_is _ ∙ ap flag_by q)
+    (c.mask_len.ensures.meant rs (sym x.rows) (sym x.has_blank))
+    (c.from.ensures ∙ flag_is _ ∙ ap flag_by x.has_blank)
     (record { cells = c.split_runs-runs.ensures.firsts ∙ ap heads found; room = omega arith; words = c.read_mask.ensures })
     (record { cells = c.split_runs-runs.ensures.ends ∙ ap ends found; room = omega arith; words = c.read_mask-2.ensures })
     (c.narrowest.ensures ∙ ap narrow len)

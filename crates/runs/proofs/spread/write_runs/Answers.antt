@@ -1,22 +1,29 @@
-use Rattle.std.proofs.Common.{◌≡◌, ◌+◌, ◌-◌, min, length, get_or, refl, ◌∙◌, arith, rules}
-use Rattle.runs.proofs.SpreadLaws.{wrote_none, wrote-more, wrote-all}
+use Rattle.std.proofs.Common.{◌≡◌, ◌+◌, ◌-◌, min, [], ◌∷◌, ◌++◌, length, refl, ◌∙◌, arith, rules}
+use Rattle.std.proofs.lemmas.List.{length-append}
+use Rattle.std.specs.Slice.Iter.{iter_rest}
+use Rattle.std.specs.Iterator.Adapters.{zip_first, zip_second}
+use Rattle.std.proofs.lemmas.Slice.Zip.{zip_turn, zip_end}
+use Rattle.runs.proofs.SpreadLaws.{wrote-more, wrote-all}
 use Rattle.runs.proofs.spread.write_runs.Goals as goal
 
-pub loop-i-init : goal.loop-i-init
-loop-i-init c = wrote_none _ _ _
-
-pub loop-i-preserved : goal.loop-i-preserved
-loop-i-preserved c =
-    let t = c.loop-i-test.true in
-    let r = c.min-runs.ensures in
+pub loop-first-preserved : goal.loop-first-preserved
+loop-first-preserved c =
     let n = length c.args.out.now in
-    let m : c.min.result ≡ min (get_or c.args.ends.now c.loop-i.i 0 - c.loop-i.before) (n - c.loop-i.count) =
-    c.min.ensures ∙ (λ t. min (c.run_len.ensures t) (c.loop-i.auto.out t - c.loop-i.count)) in
-    wrote-more c.loop-i.invariant (omega arith) (omega arith) c.loop-i.auto.out c.min.result (c.loop-i.count + c.min.result) c.fill.new.self m refl
+    let xs = c.loop-first.yielded in
+    let first : iter_rest (zip_first c.into_iter-first-iterator.result) ≡ c.args.firsts.now = search rules in
+    let second : iter_rest (zip_second c.into_iter-first-iterator.result) ≡ c.args.ends.now = search rules in
+    let turn = zip_turn c.args.firsts.now c.args.ends.now xs c.into_iter-first-iterator.result c.loop-first.first-iterator c.next.new.self c.next.result first second c.loop-first.yielded_by _ c.in-Some.is c.next.ensures.steps in
+    let m : c.min.result ≡ min (c.in-Some.end.now - c.loop-first.before) (n - c.loop-first.count) =
+    c.min.ensures ∙ (λ t. min (c.run_len.ensures t) (c.loop-first.auto.out t - c.loop-first.count)) in
+    wrote-more c.loop-first.invariant c.in-Some.first.now c.in-Some.end.now (turn.2 0) (turn.3 0) turn.0 turn.1 c.loop-first.auto.out
+    (length (xs ++ (c.in-Some.first, c.in-Some.end) ∷ [])) c.min.result (c.loop-first.count + c.min.result) c.fill.new.self
+    (length-append xs ((c.in-Some.first, c.in-Some.end) ∷ [])) m refl
     (c.fill.ensures.after (λ y e. search rules))
 
-pub returns : goal.returns
-returns c =
-    let r = c.min-runs.ensures in
-    let t = c.loop-i-test.false in
-    record { front = wrote-all c.loop-i.invariant (omega arith); few = c.loop-i.invariant.few }
+pub returns-clause-front : goal.returns-clause-front
+returns-clause-front c =
+    let xs = c.loop-first.yielded in
+    let first : iter_rest (zip_first c.into_iter-first-iterator.result) ≡ c.args.firsts.now = search rules in
+    let second : iter_rest (zip_second c.into_iter-first-iterator.result) ≡ c.args.ends.now = search rules in
+    let l = zip_end c.args.firsts.now c.args.ends.now xs c.into_iter-first-iterator.result c.loop-first.first-iterator c.next.new.self c.next.result first second c.loop-first.yielded_by c.in-None.is c.next.ensures.steps in
+    wrote-all c.loop-first.invariant (omega arith)

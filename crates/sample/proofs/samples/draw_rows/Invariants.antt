@@ -9,7 +9,7 @@ use Rattle.sample.proofs.samples.draw_rows.Given as goal
 abbrev pub invariant-loop-i : goal.invariant-loop-i
 invariant-loop-i g l =
     (l.source ≡ g.D.Draws.after seed (asked (strata l.rows l.count) l.i))
-    × (written_at (64 * l.i) (cells (rest g.D.Draws.source (strata l.rows l.count) l.i (seen l.view).rows)) l.cells
-    ≡ written (cells (rest g.D.Draws.source (strata l.rows l.count) 0 (seen l.view).rows)) l.initial.cells)
-    × (written_at l.i (presence (rest g.D.Draws.source (strata l.rows l.count) l.i (seen l.view).rows)) l.words
-    ≡ written (presence (rest g.D.Draws.source (strata l.rows l.count) 0 (seen l.view).rows)) l.initial.words)
+    × (written_at (64 * l.i) (cells (rest g.D.Draws.source (strata l.rows l.count) l.i (seen l.array.view).rows)) l.cells
+    ≡ written (cells (rest g.D.Draws.source (strata l.rows l.count) 0 (seen l.array.view).rows)) l.initial.cells)
+    × (written_at l.i (presence (rest g.D.Draws.source (strata l.rows l.count) l.i (seen l.array.view).rows)) l.words
+    ≡ written (presence (rest g.D.Draws.source (strata l.rows l.count) 0 (seen l.array.view).rows)) l.initial.words)

@@ -1,17 +1,16 @@
-use Rattle.std.proofs.Common.{◌<◌, length, refl, arith}
-use Rattle.stats.proofs.Tops.{top-more, top-all}
+use Rattle.std.proofs.Common.{◌≡◌, ℕ, List, refl, ap, ◌∙◌, rules}
+use Rattle.std.proofs.lemmas.Fn.{fold_over}
+use Rattle.std.proofs.lemmas.Iterator.{YieldsList-from_slice, YieldsList-from_zip, zips}
+use Rattle.std.proofs.iter.Yields.{fronts}
+use Rattle.std.specs.List.{zip}
+use Rattle.std.specs.Slice.Iter.{iter_rest}
+use Rattle.stats.specs.Stats.{commonest}
+use Rattle.stats.proofs.Tops.{commonest-more}
 use Rattle.stats.proofs.distinct.commonest.Goals as goal
 
-pub loop-i-init : goal.loop-i-init
-loop-i-init c = refl
-
-pub loop-i-preserved : goal.loop-i-preserved
-loop-i-preserved c =
-    let vs = c.args.vals.now in
-    let cs = c.args.counts.now in
-    let a : c.loop-i.i < length vs = omega arith in
-    let b : c.loop-i.i < length cs = omega arith in
-    top-more vs cs c.loop-i.i c.loop-i.best c.commoner-best.result _ a b c.commoner-best.ensures c.loop-i.invariant
-
 pub returns : goal.returns
-returns c = top-all c.args.vals.now c.args.counts.now c.loop-i.i c.loop-i.best _ (omega arith) c.loop-i.invariant
+returns c =
+    let pairs = zip c.args.vals.now c.args.counts.now in
+    let made = YieldsList-from_zip {s = c.zip.result} (YieldsList-from_slice c.args.vals.now (ap iter_rest c.zip.ensures.first ∙ c.iter.ensures.rest)) (YieldsList-from_slice c.args.counts.now c.zip.ensures.second.0) in
+    let J : List (ℕ × ℕ) → ℕ × ℕ → Type 0 = λ ps b. b ≡ commonest ps in
+    fold_over (zips fronts fronts) (λ p. (p.0.now, p.1.now)) _ J _ (λ ps a x b f h k. (commonest-more ps (x.0.now, x.1.now) a b h (search rules), refl)) c.zip.result pairs _ _ made.runs refl c.fold.ensures.ran

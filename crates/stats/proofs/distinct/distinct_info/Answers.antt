@@ -1,12 +1,13 @@
-use Rattle.std.proofs.Common.{◌≡◌, ◌+◌, ◌-◌, ◌^◌, ◌<◌, ◌≤◌, length, take, arith, rules}
+use Rattle.std.proofs.Common.{◌≡◌, ◌+◌, ◌-◌, ◌^◌, ◌<◌, ◌≤◌, length, take, refl, arith, rules}
 use Rattle.std.specs.List.{AllByRecursion}
 use Rattle.std.proofs.ByRecursion.{All-from_get_or}
-use Rattle.column.specs.Kinds.{number_of}
+use Rattle.column.specs.Kinds.{signed, number_of}
+use Rattle.stats.specs.Seen.{same_cell}
 use Rattle.stats.proofs.Infos.{info-in, info-most, info-beyond, all_take}
 use Rattle.stats.proofs.distinct.distinct_info.Goals as goal
 
 pub returns : goal.returns
-returns g c =
+returns c =
     let t0 = c.args.table.now in
     let n = c.args.n in
     let num = c.split_runs-number.result in
@@ -23,15 +24,15 @@ returns g c =
     let lp : length part ≡ num - 0 = omega arith in
     let words : AllByRecursion (λ w. w < 2 ^ 64) (take n t0) = all_take (λ w. w < 2 ^ 64) n t0 (All-from_get_or (λ w. w < 2 ^ 64) t0 0 (λ i h. search rules)) in
     record {
-      stands = info-in g.T.Whole.cell (number_of c.args.kind) g.T.Whole.minus t0 ts ws t3 part _ _ n (n - 0) num (num - 0) (n + num - n) c.commonest-best.result _
-          c.requires.order words m mm lm split.few (omega arith) lt lw c.turn.ensures c.sort_keys.ensures split.vals split.counts c.turn-2.ensures c.commonest-best.ensures c.of_cell.ensures;
+      stands = info-in same_cell (number_of c.args.kind) (signed (number_of c.args.kind)) t0 ts ws t3 part _ _ n (n - 0) num (num - 0) (n + num - n) c.commonest-best.result _
+          refl words m mm lm split.few (omega arith) lt lw c.turn.ensures c.sort_keys.ensures split.vals split.counts c.turn-2.ensures c.commonest-best.ensures refl;
       few = split.few;
       most = info-most ws t3 part _ n num (num - 0) (n + num - n) c.commonest-best.result mm lm split.few lw lp split.counts c.commonest-best.ensures;
       beyond = info-beyond t0 ts ws t3 part n (n - 0) (num - 0) m (omega arith) (omega arith) (omega arith) lp split.beyond;
     }
 
 pub overflow_cast-result-2 : goal.overflow_cast-result-2
-overflow_cast-result-2 g c =
+overflow_cast-result-2 c =
     let n = c.args.n in
     let num = c.split_runs-number.result in
     let mm : num - 0 ≡ num = omega arith in

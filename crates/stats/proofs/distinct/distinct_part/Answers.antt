@@ -6,7 +6,7 @@ use Rattle.stats.proofs.Together.{part-is}
 use Rattle.stats.proofs.distinct.distinct_part.Goals as goal
 
 pub returns-else-has_part : goal.returns-else-has_part
-returns-else-has_part g c =
+returns-else-has_part c =
     let t = c.args.table.now in
     let n = c.args.n in
     let k = number_of c.args.kind in

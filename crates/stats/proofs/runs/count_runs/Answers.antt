@@ -1,17 +1,20 @@
-use Rattle.std.proofs.Common.{◌*◌, length, refl, arith}
-use Rattle.stats.proofs.Blocking.{block-end, counted_none, counted-more, counted-all}
+use Rattle.std.proofs.Common.{◌≡◌, ◌⊎◌, length, ◌∙◌, inl, inr, arith, rules}
+use Rattle.std.specs.Iterator.Adapters.{zip_first, zip_second}
+use Rattle.std.specs.Slice.Iter.{iter_rest, chunks_rest}
+use Rattle.column.proofs.NextLaws.{next-by}
+use Rattle.stats.proofs.Blocking.{counted-more, counted-all}
 use Rattle.stats.proofs.runs.count_runs.Goals as goal
 
-pub loop-b-init : goal.loop-b-init
-loop-b-init g c = counted_none _ _ _ _
-
-pub loop-b-preserved : goal.loop-b-preserved
-loop-b-preserved g c =
-    let n = length c.args.cells.now in
-    let s = 64 * c.loop-b.b in
-    let e = c.min-end.result in
-    let ends = block-end n s e (omega arith) c.min-end.ensures in
-    counted-more c.loop-b.invariant c.loop-b-test.true s e _ _ refl ends.0 ends.1 ends.2 ends.3 c.inner_loop.ensures.runs c.inner_loop.ensures.prev
+pub loop-cells-preserved : goal.loop-cells-preserved
+loop-cells-preserved c =
+    let steps = c.in-Some.ensures.steps in
+    let sized = c.loop-cells.invariant.2 in
+    let next = next-by sized steps.0.1.0 steps.0.1.1 steps.1 (search rules) in
+    ((omega (arith, steps.0.0, sized), tt), tt, steps.0.0 ∙ sized, counted-more c.loop-cells.invariant.3 next _ _ c.inner_loop.ensures.runs c.inner_loop.ensures.prev)
 
 pub returns : goal.returns
-returns g c = let e = counted-all c.loop-b.invariant c.loop-b-test.false in record { runs = e.0; prev = e.1 }
+returns c =
+    let left = c.loop-cells.cells-iterator in
+    let over : (length (chunks_rest (zip_first left)) ≡ 0) ⊎ (length (iter_rest (zip_second left)) ≡ 0) = elim c.in-None.ensures.steps [ inl a ↦ inl a.1.1.0 | inr b ↦ inr b.1.0 ] in
+    let all = counted-all c.loop-cells.invariant.3 over in
+    record { runs = all.0; prev = all.1 }

@@ -3,4 +3,4 @@ use Rattle.stats.specs.Blocks.{filled_from}
 use Rattle.stats.proofs.runs.forward_fill.Given as goal
 
 abbrev pub invariant-loop-i : goal.invariant-loop-i
-invariant-loop-i g l = take l.i l.filled ++ filled_from l.valid l.i l.last (drop l.i l.filled) ≡ filled_from l.valid 0 l.initial.last l.initial.filled
+invariant-loop-i l = take l.i l.filled ++ filled_from l.valid l.i l.last (drop l.i l.filled) ≡ filled_from l.valid 0 l.initial.last l.initial.filled

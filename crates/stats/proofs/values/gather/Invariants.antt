@@ -1,5 +1,10 @@
+use Rattle.std.proofs.Common.{◌≡◌}
+use Rattle.std.specs.Iterator.Adapters.{zip_first, zip_second}
+use Rattle.std.specs.Slice.Iter.{iter_rest, chunks_rest, chunks_size}
 use Rattle.stats.proofs.Gathering.{Got}
 use Rattle.stats.proofs.values.gather.Given as goal
 
-abbrev pub invariant-loop-b : goal.invariant-loop-b
-invariant-loop-b l = Got l.words l.cells l.initial.out l.out l.b l.at
+abbrev pub invariant-loop-cells : goal.invariant-loop-cells
+invariant-loop-cells l =
+    goal.iterator-loop-cells.can_next l.cells-iterator × goal.iterator-loop-cells.is_finite l.cells-iterator × (chunks_size (zip_first l.cells-iterator) ≡ 64)
+    × Got l.view.words.now l.view.cells.now l.initial.out l.out l.at (iter_rest (zip_second l.cells-iterator)) (chunks_rest (zip_first l.cells-iterator))

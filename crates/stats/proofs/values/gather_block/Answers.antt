@@ -6,10 +6,10 @@ use Rattle.stats.proofs.values.gather_block.Goals.{then-is_set, else-is_set}
 
 pub loop-i-preserved : goal.loop-i-preserved
 loop-i-preserved c =
-    let w = c.args.valid in
+    let w = c.args.block.word in
     let n = c.loop-i.n in
     let i = c.loop-i.i in
-    let xs = c.args.cells.now in
+    let xs = c.args.block.cells.now in
     let out = c.loop-i.out in
     let m = c.args.at + length xs in
     let lt : i < length xs = omega arith in
@@ -29,9 +29,9 @@ loop-i-preserved c =
 
 pub returns : goal.returns
 returns c =
-    let le : length c.args.cells.now ≤ c.loop-i.i = omega arith in
+    let le : length c.args.block.cells.now ≤ c.loop-i.i = omega arith in
     record {
-      front = gather-end c.args.valid c.loop-i.n c.loop-i.i c.args.cells.now c.loop-i.out _ le c.loop-i.invariant.0;
+      front = gather-end c.args.block.word c.loop-i.n c.loop-i.i c.args.block.cells.now c.loop-i.out _ le c.loop-i.invariant.0;
       fits = omega arith;
       beyond = c.loop-i.invariant.2;
     }

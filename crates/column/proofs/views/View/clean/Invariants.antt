@@ -1,10 +1,11 @@
-use Rattle.std.proofs.Common.{◌≡◌, ◌*◌, ◌++◌, length, take, drop}
-use Rattle.column.specs.Columns.{cells, seen}
-use Rattle.column.proofs.WordLaws.{word_rows}
+use Rattle.std.proofs.Common.{◌≡◌, ◌*◌}
+use Rattle.std.specs.Iterator.Adapters.{enumerate_source, enumerate_count, zip_first, zip_second}
+use Rattle.std.specs.Slice.Iter.{iter_rest, chunks_rest, chunks_size}
+use Rattle.column.proofs.CleanLaws.{Cleaning}
 use Rattle.column.proofs.views.View.clean.Given as goal
 
--- what is written, what is to come, and what stays
 abbrev pub invariant-loop-b : goal.invariant-loop-b
 invariant-loop-b l =
-    take (64 * l.b) (take (length l.self.cells.now) l.out) ++ (cells (word_rows (drop l.b l.self.words.now) (drop (64 * l.b) l.self.cells.now)) ++ drop (length l.self.cells.now) l.out)
-    ≡ cells (seen l.self).rows ++ drop (length l.self.cells.now) l.initial.out
+    let pairs = enumerate_source l.b-iterator in
+    goal.iterator-loop-b.can_next l.b-iterator × goal.iterator-loop-b.is_finite l.b-iterator × (chunks_size (zip_first pairs) ≡ 64)
+    × Cleaning l.self.words.now l.self.cells.now l.initial.out l.out (iter_rest (zip_second pairs)) (chunks_rest (zip_first pairs)) (64 * enumerate_count l.b-iterator)

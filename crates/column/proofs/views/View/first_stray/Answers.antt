@@ -1,27 +1,27 @@
-use Rattle.std.proofs.Common.{◌*◌, ◌^◌, ◌<◌, sym, refl, arith, rules}
-use Rattle.std.proofs.ByRecursion.{All-from_get_or}
-use Rattle.column.specs.Columns.{offer_seen}
-use Rattle.column.proofs.WordLaws.{Words}
-use Rattle.column.proofs.StrayLaws.{strays-more, strays-stop, strays-end}
+use Rattle.std.proofs.Common.{◌*◌, sym, ap, ◌∙◌, arith, rules}
+use Rattle.column.specs.Kinds.{number_of}
+use Rattle.column.specs.Columns.{stray_from}
+use Rattle.column.specs.Views.{block_rows}
+use Rattle.column.proofs.NextLaws.{next-by, next-length, next-worded}
+use Rattle.column.proofs.StrayLaws.{strays-more, strays-stop}
 use Rattle.column.proofs.views.View.first_stray.Goals as goal
 
-pub returns-in-Some : goal.returns-in-Some
-returns-in-Some c =
-    let o = offer_seen c.args.self.now in
-    let b = c.loop-b.b in
-    let a : Words o.words = All-from_get_or (λ w. w < 2 ^ 64) o.words 0 (λ i h. search rules) in
-    strays-stop o.kind o.words o.cells b (64 * b) c.block_end-end.result c.in-Some.row _
-    a c.loop-b-test.true refl (omega arith) c.block_end-end.ensures c.loop-b.invariant (sym c.in-Some.ensures)
+pub returns-in-Some-first_stray : goal.returns-in-Some-first_stray
+returns-in-Some-first_stray c =
+    let steps = c.in-Some.ensures.steps in
+    let k = number_of c.args.self.now.kind in
+    let next = next-by c.loop-b.invariant.2 steps.0.0.1.0 steps.0.0.1.1 steps.0.1 (search rules) in
+    strays-stop k _ next c.loop-b.invariant.5 c.in-Some-first_stray.row (ap (λ b. stray_from k (64 * b) (block_rows c.in-Some.word.now c.in-Some.cells.now)) (sym steps.1) ∙ sym c.in-Some-first_stray.ensures)
 
 pub loop-b-preserved : goal.loop-b-preserved
 loop-b-preserved c =
-    let o = offer_seen c.args.self.now in
-    let b = c.loop-b.b in
-    let a : Words o.words = All-from_get_or (λ w. w < 2 ^ 64) o.words 0 (λ i h. search rules) in
-    strays-more o.kind o.words o.cells b (64 * b) c.block_end-end.result _
-    a c.loop-b-test.true refl (omega arith) c.block_end-end.ensures c.loop-b.invariant (sym c.in_default.ensures)
-
-pub returns : goal.returns
-returns c =
-    let o = offer_seen c.args.self.now in
-    strays-end o.kind c.loop-b.b o.words o.cells _ (omega arith) c.loop-b.invariant
+    let steps = c.in-Some.ensures.steps in
+    let k = number_of c.args.self.now.kind in
+    let next = next-by c.loop-b.invariant.2 steps.0.0.1.0 steps.0.0.1.1 steps.0.1 (search rules) in (
+      (search rules, tt, search rules),
+      tt,
+      search rules,
+      next-worded next c.loop-b.invariant.3,
+      omega (arith, steps.2, c.loop-b.invariant.4, next-length next, next.size),
+      strays-more k _ next c.loop-b.invariant.5 _ (omega (arith, steps.2)) (ap (λ b. stray_from k (64 * b) (block_rows c.in-Some.word.now c.in-Some.cells.now)) (sym steps.1) ∙ sym c.in_default.ensures),
+    )

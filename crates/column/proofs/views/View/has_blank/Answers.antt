@@ -1,39 +1,25 @@
-use Rattle.std.proofs.Common.{◌≡◌, ◌-◌, ◌/◌, ◌%◌, ◌^◌, ◌<◌, not, eqb, length, get_or, sym, ap, ◌∙◌, arith, rules}
-use lib.Bits.{bit_and}
-use Rattle.std.proofs.lemmas.Nat.{and_mask, mod_below}
-use Rattle.std.proofs.ByRecursion.{All-from_get_or}
-use Rattle.std.proofs.lemmas.Bool.{eq-eqb}
-use Rattle.column.specs.Columns.{offer_seen}
-use Rattle.column.proofs.WordLaws.{Words}
-use Rattle.column.proofs.BlankLaws.{blanks-more, blanks-stop, blanks-end, blanks-last}
+use Rattle.std.proofs.Common.{◌≡◌, ◌⊎◌, length, ◌∙◌, inl, inr, arith, rules}
+use Rattle.std.specs.Iterator.Adapters.{zip_first, zip_second}
+use Rattle.std.specs.Slice.Iter.{iter_rest, chunks_rest}
+use Rattle.column.proofs.NextLaws.{next-by, next-worded, over}
+use Rattle.column.proofs.BlankLaws.{blanks-more, blanks-stop, blanks-end}
 use Rattle.column.proofs.views.View.has_blank.Goals as goal
 
-pub returns-then-words-b : goal.returns-then-words-b
-returns-then-words-b c =
-    let o = offer_seen c.args.self.now in
-    let a : Words o.words = All-from_get_or (λ w. w < 2 ^ 64) o.words 0 (λ i h. search rules) in
-    blanks-stop o.words o.cells c.loop-b.b _ a (omega arith) (omega arith) c.if-words-b.true c.loop-b.invariant
+pub returns-then-has_blank : goal.returns-then-has_blank
+returns-then-has_blank c =
+    let steps = c.in-Some.ensures.steps in
+    let next = next-by c.loop-cells.invariant.2 steps.0.1.0 steps.0.1.1 steps.1 (search rules) in
+    blanks-stop next c.loop-cells.invariant.4 c.if-has_blank.ensures
 
-pub loop-b-preserved : goal.loop-b-preserved
-loop-b-preserved c =
-    let o = offer_seen c.args.self.now in
-    let a : Words o.words = All-from_get_or (λ w. w < 2 ^ 64) o.words 0 (λ i h. search rules) in
-    blanks-more o.words o.cells c.loop-b.b _ a (omega arith) (omega arith) c.if-words-b.false c.loop-b.invariant
+pub loop-cells-preserved : goal.loop-cells-preserved
+loop-cells-preserved c =
+    let steps = c.in-Some.ensures.steps in
+    let sized = c.loop-cells.invariant.2 in
+    let next = next-by c.loop-cells.invariant.2 steps.0.1.0 steps.0.1.1 steps.1 (search rules) in
+    ((omega (arith, steps.0.0, sized), tt), tt, steps.0.0 ∙ sized, next-worded next c.loop-cells.invariant.3, blanks-more next c.loop-cells.invariant.4 c.if-has_blank.ensures)
 
-pub returns-then-rest-ne0 : goal.returns-then-rest-ne0
-returns-then-rest-ne0 c =
-    let o = offer_seen c.args.self.now in
-    let n = length o.cells in
-    let a : Words o.words = All-from_get_or (λ w. w < 2 ^ 64) o.words 0 (λ i h. search rules) in
-    let b : c.loop-b.b ≡ n / 64 = omega arith in
-    let w = get_or o.words c.loop-b.b 0 in
-    let mask = c.low_ones-mask.ensures in
-    (λ i. not (eqb (bit_and (get_or o.words (sym b i) 0) (mask i)) (mask i)))
-    ∙ ap (λ z. not (eqb z (2 ^ (n % 64) - 1))) (and_mask w (n % 64))
-    ∙ blanks-last o.words o.cells c.loop-b.b (n % 64) _ a (omega arith) (omega arith) (mod_below n 64 (omega arith)) c.loop-b.invariant
-
-pub returns-else-rest-ne0 : goal.returns-else-rest-ne0
-returns-else-rest-ne0 c =
-    let o = offer_seen c.args.self.now in
-    let n = length o.cells in
-    ap not (eq-eqb (n % 64) 0 c.if-rest-ne0.false) ∙ blanks-end o.words o.cells c.loop-b.b _ (omega arith) c.loop-b.invariant
+pub returns : goal.returns
+returns c =
+    let left = c.loop-cells.cells-iterator in
+    let none : (length (chunks_rest (zip_first left)) ≡ 0) ⊎ (length (iter_rest (zip_second left)) ≡ 0) = elim c.in-None.ensures.steps [ inl a ↦ inl a.1.1.0 | inr b ↦ inr b.1.0 ] in
+    blanks-end _ _ _ (over _ _ c.loop-cells.invariant.3 none) c.loop-cells.invariant.4

@@ -1,54 +1,38 @@
-use Rattle.std.proofs.Common.{◌≡◌, ℕ, ◌≤◌, List, length, Some, None, Option, sym, ap, ◌∙◌, subst, arith}
-use Rattle.column.specs.declared.kinds.Kind.{Kind}
-use Rattle.column.specs.Kinds.{number_of, kind_of}
-use Rattle.column.specs.Columns.{Row, Offer, Clean, cleaned, stray_from, offered, offer_seen}
+use Rattle.std.proofs.Common.{◌≡◌, ◌^◌, ◌<◌, length, None, sym, refl, ◌∙◌, rules}
+use Rattle.std.proofs.ByRecursion.{All-from_get_or}
+use Rattle.column.specs.Kinds.{number_of}
+use Rattle.column.specs.Columns.{Offer, offered, stray_from, word_bits}
+use Rattle.column.proofs.WordLaws.{Words}
+use Rattle.column.proofs.KindLaws.{wide-kind}
+use Rattle.column.proofs.StrayLaws.{stray-wide}
 use Rattle.column.proofs.HiddenLaws.{hidden}
-use Rattle.column.proofs.InspectLaws.{kind-none, kind-some, kind-few, refused-kind, refused-shape, refused-stray, shape-right, unrefused}
+use Rattle.column.proofs.InspectLaws.{shown}
 use Rattle.column.proofs.views.View.new.Goals as goal
 
-abbrev offer : ℕ → List ℕ → List ℕ → Offer
-offer k cs ws = record { kind = k; cells = cs; words = ws }
+pub returns-in-None-clause-inspected : goal.returns-in-None-clause-inspected
+returns-in-None-clause-inspected c =
+    let o : Offer = record { kind = c.args.kind; cells = c.args.cells.now; words = c.args.words.now } in
+    shown o c.in_ok-kind.kind (sym c.try_from.ensures ∙ c.in_ok-kind.was) (sym c.check_shape.ensures ∙ c.in_ok-check_shape.was) (sym c.in-None.ensures) _ refl
 
-known : (k : ℕ) (q : Kind) → kind_of k ≡ Some q → k ≤ 7
-known k q e = let n = kind-some k q e in let f = kind-few q in omega (arith, n, f)
+pub returns-then-width-eq64-clause-inspected : goal.returns-then-width-eq64-clause-inspected
+returns-then-width-eq64-clause-inspected c =
+    let o : Offer = record { kind = c.args.kind; cells = c.args.cells.now; words = c.args.words.now } in
+    let words : Words o.cells = All-from_get_or (λ w. w < 2 ^ 64) o.cells 0 (λ i h. search rules) in
+    let k = c.in_ok-kind.kind in
+    let none : stray_from (number_of k) 0 (offered o) ≡ None = stray-wide (number_of k) 0 (word_bits (length o.cells) o.words) o.cells (wide-kind k (sym c.width.ensures ∙ c.if-width-eq64.true)) words in
+    shown o k (sym c.try_from.ensures ∙ c.in_ok-kind.was) (sym c.check_shape.ensures ∙ c.in_ok-check_shape.was) none _ refl
 
-stray-at : (k n : ℕ) (rs : List Row) (s : Option ℕ) → k ≡ n → s ≡ stray_from n 0 rs → stray_from k 0 rs ≡ s
-stray-at k n rs s e f = ap (λ z. stray_from z 0 rs) e ∙ sym f
+pub returns-then-width-eq64-clause-hidden : goal.returns-then-width-eq64-clause-hidden
+returns-then-width-eq64-clause-hidden c = hidden (record { kind = c.args.kind; cells = c.args.cells.now; words = c.args.words.now })
 
-pub returns-in_default : goal.returns-in_default
-returns-in_default c =
-    let o = offer c.args.kind c.args.cells.now c.args.words.now in
-    record { inspected = refused-kind o (kind-none o.kind (sym c.in_default.ensures)); hidden = hidden o }
+pub returns-in_err-kind-clause-hidden : goal.returns-in_err-kind-clause-hidden
+returns-in_err-kind-clause-hidden c = hidden (record { kind = c.args.kind; cells = c.args.cells.now; words = c.args.words.now })
 
-pub returns-in-Some-shape_refused : goal.returns-in-Some-shape_refused
-returns-in-Some-shape_refused c =
-    let o = offer c.args.kind c.args.cells.now c.args.words.now in
-    let k = known o.kind c.in-Some.known (sym c.in-Some.ensures) in
-    record { inspected = refused-shape o k c.in-Some-shape_refused.refusal (sym c.in-Some-shape_refused.ensures); hidden = hidden o }
+pub returns-in_err-check_shape-clause-hidden : goal.returns-in_err-check_shape-clause-hidden
+returns-in_err-check_shape-clause-hidden c = hidden (record { kind = c.args.kind; cells = c.args.cells.now; words = c.args.words.now })
 
-pub returns-in-Some-first_stray : goal.returns-in-Some-first_stray
-returns-in-Some-first_stray c =
-    let o = offer c.args.kind c.args.cells.now c.args.words.now in
-    let k = known o.kind c.in-Some.known (sym c.in-Some.ensures) in
-    let n = kind-some o.kind c.in-Some.known (sym c.in-Some.ensures) in
-    let s = stray-at o.kind (number_of c.in-Some.known) (offered o) (Some c.in-Some-first_stray.row) n c.in-Some-first_stray.ensures in
-    record { inspected = refused-stray o k (shape-right (length o.cells) o.words (sym c.in_default-shape_refused.ensures)) (Some c.in-Some-first_stray.row) s; hidden = hidden o }
+pub returns-in-Some-clause-hidden : goal.returns-in-Some-clause-hidden
+returns-in-Some-clause-hidden c = hidden (record { kind = c.args.kind; cells = c.args.cells.now; words = c.args.words.now })
 
-pub returns-in-None : goal.returns-in-None
-returns-in-None c =
-    let o = offer c.args.kind c.args.cells.now c.args.words.now in
-    let k = known o.kind c.in-Some.known (sym c.in-Some.ensures) in
-    let n = kind-some o.kind c.in-Some.known (sym c.in-Some.ensures) in
-    let s = stray-at o.kind (number_of c.in-Some.known) (offered o) None n c.in-None.ensures in
-    let right = shape-right (length o.cells) o.words (sym c.in_default-shape_refused.ensures) in
-    let free = refused-stray o k right None s in
-    let same : offer_seen (record { kind = c.in-Some.known; cells = c.args.cells; words = c.args.words }) ≡ o = λ i. record { kind = sym n i; cells = o.cells; words = o.words } in
-    record {
-      inspected = record {
-        unrefused = free;
-        same = same;
-        sound = record { few = right.few; words = right.words };
-        clean = subst (λ p. Clean (cleaned p)) (sym same) (unrefused o free);
-      };
-      hidden = hidden o;
-    }
+pub returns-in-None-clause-hidden : goal.returns-in-None-clause-hidden
+returns-in-None-clause-hidden c = hidden (record { kind = c.args.kind; cells = c.args.cells.now; words = c.args.words.now })

@@ -11,21 +11,20 @@ use Rattle.dict.proofs.integer.IntDictSchemeScheme.shape.Goals as goal
 
 pub encode-requires : goal.encode-requires
 encode-requires c =
-    let view = c.args.array in
+    let view = c.args.array.view in
     let n = c.list_distinct-count.result in
     let out = c.list_distinct-count.new.out in
     let found : take (n - 0) out ≡ distinct_values (seen view) = ap (λ z. take z out) (let s : n - 0 ≡ n = omega arith in s) ∙ c.list_distinct-count.ensures.front in
     let rows = c.rows-rows.ensures in
     record {
-      sound = c.requires.sound;
-      ascends = subst (Ascends (number_of view.kind)) (sym found) (distinct-ascends (seen view) c.requires.clean.clean);
+      ascends = subst (Ascends (number_of view.kind)) (sym found) (distinct-ascends (seen view) c.args.array.clean.clean);
       known = subst (λ ds. Known ds (values (seen view))) (sym found) (distinct-known (seen view));
       room = length-take-le (c.rows-rows.result - 0) c.args.cells1.now (omega arith) ∙ omega arith;
     }
 
 pub returns : goal.returns
 returns c =
-    let view = c.args.array in
+    let view = c.args.array.view in
     let rs = (seen view).rows in
     let ds = distinct_values (seen view) in
     let n = c.list_distinct-count.result in
@@ -46,5 +45,5 @@ returns c =
     c.read_mask.ensures
     (rows ∙ sym (length-offered (offer_seen view)))
     (take_at c.encode.new.out _ c.rows-rows.result codes ∙ c.encode.ensures ∙ ap (λ xs. cells (map (code_row xs) rs)) found)
-    (take_at c.copy_from_slice.new.self _ (words_for c.rows-rows.result) (ap length words ∙ c.requires.sound.words ∙ ap words_for (sym rows)) ∙ words ∙ ap (λ o. o.words) c.requires.clean.stored)
+    (take_at c.copy_from_slice.new.self _ (words_for c.rows-rows.result) (ap length words ∙ view.worded ∙ ap words_for (sym rows)) ∙ words ∙ ap (λ o. o.words) c.args.array.clean.stored)
     (c.codes_kind.ensures ∙ ap (λ x. narrow (x - 1)) len)

@@ -1,8 +1,0 @@
-use Rattle.std.proofs.Common.{◌≡◌, ◌/◌, ◌^◌, ◌++◌, take, drop}
-use Rattle.column.specs.Columns.{cells}
-use Rattle.column.specs.Views.{block_rows}
-use Rattle.column.proofs.views.clean_cells.Given as goal
-
--- what is written, and what is to come
-abbrev pub invariant-loop-i : goal.invariant-loop-i
-invariant-loop-i l = take l.i l.out ++ cells (block_rows (l.word / 2 ^ l.i) (drop l.i l.cells)) ≡ cells (block_rows (l.word / 2 ^ 0) l.cells)

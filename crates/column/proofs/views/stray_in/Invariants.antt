@@ -1,9 +1,0 @@
-use Rattle.std.proofs.Common.{◌≡◌, ◌+◌, ◌/◌, ◌^◌, drop}
-use Rattle.column.specs.Kinds.{number_of}
-use Rattle.column.specs.Columns.{stray_from}
-use Rattle.column.specs.Views.{block_rows}
-use Rattle.column.proofs.views.stray_in.Given as goal
-
--- the rows to come have the first
-abbrev pub invariant-loop-i : goal.invariant-loop-i
-invariant-loop-i l = stray_from (number_of l.kind) (l.start + l.i) (block_rows (l.word / 2 ^ l.i) (drop l.i l.block)) ≡ stray_from (number_of l.kind) (l.start + 0) (block_rows (l.word / 2 ^ 0) l.block)

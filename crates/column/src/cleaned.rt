@@ -1,0 +1,11 @@
+// A cleaned column as slices lend it.
+ghost use Rattle.column.specs.Columns.{CleanView};
+
+use crate::views::View;
+
+// A view with 0 under each blank, no spare bit set, and nothing that a refusal would turn away.
+#[derive(Clone, Copy)]
+pub struct Cleaned<'a> {
+    pub view: View<'a>,
+    ghost clean: { CleanView view },
+}
