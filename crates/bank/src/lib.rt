@@ -25,6 +25,7 @@ use scheme::scheme::{ArrayAndStats, RowRefused, Scheme, Shape, Stored};
 // Every answer is that of the scheme's meaning at the number.
 // A trait, and no `&[&dyn Scheme]`: a struct that keeps a `&dyn` gets no proof yet, and no function may hand one out.
 // Each function asks for `within` itself: a checked number would hold its bank, and every call would ask that the two banks are one.
+// What is asked about the scheme's kinds and about lent memory relates two parameters each, too.
 pub trait Bank {
     ghost meanings: { Self → List Meaning };
 

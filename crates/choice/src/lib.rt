@@ -22,7 +22,8 @@ use scheme::scheme::ArrayAndStats;
 use select::Candidate;
 use table::{FREE, Slot, Table};
 
-// What the immediate answers came to: a scheme that is always used, or the best so far and those that wait.
+// What the immediate answers came to: a scheme that is always used, or the best so far and those that wait. Not `Result`: neither is a
+// failure, and the second carries two values.
 #[derive(Clone, Copy)]
 pub enum FirstPass {
     Ended(usize),
@@ -30,8 +31,8 @@ pub enum FirstPass {
 }
 
 // Every eligible scheme in bank order. Deferred work is left for later, so that none is done if AlwaysUse ends the choice.
-pub fn ask_all<'a, B: Bank>(
-    bank: &'a SmallBank<'a, B>,
+pub fn ask_all<B: Bank>(
+    bank: &SmallBank<'_, B>,
     col: ArrayAndStats<'_>,
     ctx: &CompressorContext,
     mem: &mut [u64],
@@ -42,9 +43,11 @@ pub fn ask_all<'a, B: Bank>(
 {
     let mut best = None;
     let mut table = Bounded::new(FREE);
+    // Schemes are asked by number, which is what candidates and answers keep.
     for i in 0..bank.schemes.count() {
         let candidate = Candidate {
-            bank,
+            // lent again, since a candidate has one lifetime for the bank and what it borrows
+            bank: &*bank,
             number: i,
             history: ctx.cascade_history(),
         };

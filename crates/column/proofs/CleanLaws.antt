@@ -2,14 +2,14 @@
 use Rattle.std.proofs.Common.{◌≡◌, ℕ, zero, suc, ◌+◌, ◌-◌, ◌/◌, ◌%◌, ◌^◌, ◌<◌, ◌≤◌, false, List, [], ◌∷◌, ◌++◌, length, get_or, take, drop, set, replicate, sym, refl, ap, ◌∙◌, arith}
 use borrow.Rule.Slice.PartMut.{put_mid}
 use Rattle.std.proofs.lemmas.Bool.{true≢false}
-use Rattle.std.proofs.lemmas.List.{take_more_set, take_all, take-append-drop, append_assoc, append-nil, map-append}
+use Rattle.std.proofs.lemmas.List.{take_more_set, take-append-drop, append_assoc, map-append, drop_more, drop-set-lt}
 use Rattle.std.proofs.lemmas.Slice.{take-put_mid, drop-put_mid}
 use Rattle.packing.specs.Packing.{digits, written}
 use Rattle.column.specs.Words.{words_for}
 use Rattle.column.specs.Columns.{row_of, rows_of, cell_of, cells as cells_of, has_blank}
 use Rattle.column.specs.Views.{block_rows}
-use Rattle.column.proofs.RowLaws.{length_digits, length-offered, length-cells}
-use Rattle.column.proofs.WordLaws.{word_rows, block_more, block-end, length-block, rows_none}
+use Rattle.column.proofs.RowLaws.{length_digits, length-offered, length-cells, cell_set, cell-unset}
+use Rattle.column.proofs.WordLaws.{word_rows, block_more, length-block, rows_none}
 use Rattle.column.proofs.NextLaws.{Next, next-length, next-worded, next-rows}
 use Rattle.column.proofs.BlankLaws.{ones-block}
 
@@ -31,17 +31,28 @@ cells-full (suc b ∷ bs) (w ∷ ws) l e = ap (λ ys. w ∷ ys) (cells-full bs w
 pub cells-ones : (w : ℕ) (xs : List ℕ) → w ≡ 2 ^ 64 - 1 → length xs ≤ 64 → cells_of (block_rows w xs) ≡ xs
 cells-ones w xs e h = cells-full (digits 2 (length xs) w) xs (length_digits 2 (length xs) w) (ones-block w xs e h)
 
-pub clean-more : (w i : ℕ) (xs out out2 : List ℕ) (y : ℕ) (goal : List ℕ) → i < length xs → i < length out → y ≡ cell_of (row_of (w / 2 ^ i % 2) (get_or xs i 0)) → out2 ≡ set out i y
-    → take i out ++ cells_of (block_rows (w / 2 ^ i) (drop i xs)) ≡ goal
-    → take (i + 1) out2 ++ cells_of (block_rows (w / 2 ^ (i + 1)) (drop (i + 1) xs)) ≡ goal
-clean-more w i xs out out2 y goal h l e o now =
-    let rest = cells_of (block_rows (w / 2 ^ (i + 1)) (drop (i + 1) xs)) in
-    ap (λ z. take (i + 1) z ++ rest) o ∙ ap (λ z. z ++ rest) (take_more_set out i y l) ∙ append_assoc (take i out) (y ∷ []) rest
-    ∙ ap (λ z. take i out ++ (z ∷ rest)) e ∙ ap (λ z. take i out ++ cells_of z) (sym (block_more w i xs h)) ∙ now
+-- row i is written, and the cells after it still stand
+module _ (w i : ℕ) (xs out goal : List ℕ) (h : i < length xs) (l : i < length out) (now : (take i out ++ cells_of (block_rows (w / 2 ^ i) (drop i xs)) ≡ goal) × (drop i out ≡ drop i xs)) where
+  stands : get_or out i 0 ∷ drop (i + 1) out ≡ get_or xs i 0 ∷ drop (i + 1) xs
+  stands = sym (drop_more out i 0 l) ∙ now.1 ∙ drop_more xs i 0 h
 
-pub clean_end : (w i : ℕ) (xs out goal : List ℕ) → length xs ≤ i → length out ≤ i → take i out ++ cells_of (block_rows (w / 2 ^ i) (drop i xs)) ≡ goal → out ≡ goal
-clean_end w i xs out goal h l now =
-    sym (append-nil out) ∙ ap (λ z. z ++ []) (sym (take_all i out l)) ∙ ap (λ z. take i out ++ cells_of z) (sym (block-end w i xs h)) ∙ now
+  clean-more : (y : ℕ) (out2 : List ℕ) → y ≡ cell_of (row_of (w / 2 ^ i % 2) (get_or xs i 0)) → out2 ≡ set out i y
+      → (take (i + 1) out2 ++ cells_of (block_rows (w / 2 ^ (i + 1)) (drop (i + 1) xs)) ≡ goal) × (drop (i + 1) out2 ≡ drop (i + 1) xs)
+  clean-more y out2 e o =
+      let rest = cells_of (block_rows (w / 2 ^ (i + 1)) (drop (i + 1) xs)) in (
+        ap (λ z. take (i + 1) z ++ rest) o ∙ ap (λ z. z ++ rest) (take_more_set out i y l) ∙ append_assoc (take i out) (y ∷ []) rest
+            ∙ ap (λ z. take i out ++ (z ∷ rest)) e ∙ ap (λ z. take i out ++ cells_of z) (sym (block_more w i xs h)) ∙ now.0,
+        ap (drop (i + 1)) o ∙ drop-set-lt (i + 1) out i y (omega arith) ∙ ap (drop 1) stands,
+      )
+
+  -- a value stays as it was copied
+  pub clean-value : (out2 : List ℕ) → w / 2 ^ i % 2 ≡ 1 → out2 ≡ set out i (get_or out i 0)
+      → (take (i + 1) out2 ++ cells_of (block_rows (w / 2 ^ (i + 1)) (drop (i + 1) xs)) ≡ goal) × (drop (i + 1) out2 ≡ drop (i + 1) xs)
+  clean-value out2 e o = clean-more (get_or out i 0) out2 (ap (λ z. get_or z 0 0) stands ∙ cell_set (w / 2 ^ i % 2) (get_or xs i 0) e) o
+
+  pub clean-blank : (out2 : List ℕ) → (w / 2 ^ i % 2 ≡ 1 → ⊥) → out2 ≡ set out i 0
+      → (take (i + 1) out2 ++ cells_of (block_rows (w / 2 ^ (i + 1)) (drop (i + 1) xs)) ≡ goal) × (drop (i + 1) out2 ≡ drop (i + 1) xs)
+  clean-blank out2 e o = clean-more 0 out2 (cell-unset (w / 2 ^ i % 2) (get_or xs i 0) (omega arith) e) o
 
 -- ---- block by block
 

@@ -1,9 +1,9 @@
 -- When a word is a value of a kind.
-use Rattle.std.proofs.Common.{◌≡◌, ℕ, ◌^◌, ◌<◌, ◌≤◌, true, false, ◌&&◌, ltb, leb, zero-le, arith}
+use Rattle.std.proofs.Common.{◌≡◌, ℕ, ◌^◌, ◌<◌, ◌≤◌, Bool, true, false, ◌&&◌, ltb, leb, zero-le, arith}
 use Rattle.std.proofs.lemmas.Bool.{ltb-true, leb-true, lt-ltb, le-leb, lt-leb, and_parts, and_from, and_left, and_right}
 use Rattle.column.specs.declared.kinds.Kind.{Kind}
 use Rattle.column.specs.declared.kinds.Kind.TheVariants.{U8, U16, U32, U64, I8, I16, I32, I64}
-use Rattle.column.specs.Kinds.{number_of, width, key, least, greatest, in_kind}
+use Rattle.column.specs.Kinds.{number_of, width, key_by, key, least, greatest, in_kind}
 
 pub record Bounds (k w : ℕ) : Type 0 where
   pub word : w < 2 ^ 64
@@ -37,3 +37,8 @@ wide-kind I8 e w h = absurd (omega (arith, e))
 wide-kind I16 e w h = absurd (omega (arith, e))
 wide-kind I32 e w h = absurd (omega (arith, e))
 wide-kind I64 e w h = in-kind 7 w h zero-le (omega arith)
+
+-- a word's key is a word
+pub key-word : (s : Bool) (w : ℕ) → w < 2 ^ 64 → key_by s w < 2 ^ 64
+key-word true w h = omega arith
+key-word false w h = h

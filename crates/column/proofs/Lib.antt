@@ -7,3 +7,4 @@ pub mod BlankLaws
 pub mod CleanLaws
 pub mod HiddenLaws
 pub mod InspectLaws
+pub mod ViewLaws

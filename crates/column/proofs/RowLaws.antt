@@ -1,14 +1,12 @@
 -- Rows from bits and cells.
-use Rattle.std.proofs.Common.{◌≡◌, ℕ, zero, suc, ◌/◌, ◌%◌, ◌^◌, ◌<◌, ◌||◌, eqb, List, [], ◌∷◌, ◌++◌, length, get_or, Some, None, sym, refl, ap, ◌∙◌, div-one, one-add, arith, shr-shr}
+use Rattle.std.proofs.Common.{◌≡◌, ℕ, zero, suc, ◌/◌, ◌%◌, ◌^◌, ◌<◌, ◌≤◌, ◌||◌, eqb, List, [], ◌∷◌, ◌++◌, length, get_or, Some, None, sym, refl, ap, ◌∙◌, zero-le, suc-le-suc, le_refl, zero-lt-suc, div-one, one-add, arith, shr-shr}
 use Rattle.std.specs.List.{AllByRecursion}
+use Rattle.std.proofs.lemmas.Bool.{leb-true}
 use Rattle.std.proofs.lemmas.List.{length-map}
-use Rattle.packing.specs.Packing.{digits}
-use Rattle.column.specs.Columns.{Row, Offer, cell_of, bit_of, cells, bits, row_of, rows_of, values_of, has_blank, word_bits, offered}
+use Rattle.packing.specs.Packing.{digits, Below}
+pub use Rattle.packing.proofs.Digits.{length_digits}
+use Rattle.column.specs.Columns.{Row, Column, Clean, Offer, cell_of, bit_of, cells, bits, row_of, rows_of, values_of, has_blank, word_bits, offered}
 use Rattle.column.specs.Views.{is_value}
-
-pub length_digits : (b n x : ℕ) → length (digits b n x) ≡ n
-length_digits b zero x = refl
-length_digits b (suc n) x = ap suc (length_digits b n (x / b))
 
 pub length-rows : (bs ws : List ℕ) → length (rows_of bs ws) ≡ length bs
 length-rows [] ws = refl
@@ -118,3 +116,33 @@ pub blank-append : (xs ys : List Row) → has_blank (xs ++ ys) ≡ (has_blank xs
 blank-append [] ys = refl
 blank-append (None ∷ xs) ys = refl
 blank-append (Some w ∷ xs) ys = blank-append xs ys
+
+-- ---- bits, cells and values of rows
+
+pub length-bits : (rs : List Row) → length (bits rs) ≡ length rs
+length-bits rs = length-map rs bit_of
+
+pub below-bits : (rs : List Row) → Below 2 (bits rs)
+below-bits [] = tt
+below-bits (None ∷ rs) = (zero-lt-suc 1, below-bits rs)
+below-bits (Some w ∷ rs) = (le_refl 2, below-bits rs)
+
+-- rows come back from their bits and cells
+pub rows_back : (rs : List Row) → rows_of (bits rs) (cells rs) ≡ rs
+rows_back [] = refl
+rows_back (None ∷ rs) = ap (λ (xs : List Row). None ∷ xs) (rows_back rs)
+rows_back (Some w ∷ rs) = ap (λ (xs : List Row). Some w ∷ xs) (rows_back rs)
+
+-- no more values than rows
+pub length-values : (rs : List Row) → length (values_of rs) ≤ length rs
+length-values [] = zero-le
+length-values (None ∷ rs) = let h = length-values rs in omega arith
+length-values (Some w ∷ rs) = suc-le-suc (length-values rs)
+
+-- ---- clean columns
+
+pub clean-kind : (c : Column) → Clean c → c.kind ≤ 7
+clean-kind c h = leb-true c.kind 7 h.0
+
+pub clean-short : (c : Column) → Clean c → length c.rows ≤ 131072
+clean-short c h = leb-true (length c.rows) 131072 h.1

@@ -1,14 +1,16 @@
 -- Presence words: their bits by rows, and rows by blocks of 64.
-use Rattle.std.proofs.Common.{◌≡◌, ℕ, zero, suc, ◌+◌, ◌-◌, ◌*◌, ◌/◌, ◌%◌, ◌^◌, ◌<◌, ◌≤◌, eqb, ltb, ◌⊎◌, List, [], ◌∷◌, ◌++◌, length, get_or, drop, None, sym, ap, ◌∙◌, inl, inr, mul_assoc, pow-suc, zero-add, zero-mul, mul-one, div-one, one-add, arith, shr-shr}
+use Rattle.std.proofs.Common.{◌≡◌, ℕ, zero, suc, ◌+◌, ◌-◌, ◌*◌, ◌/◌, ◌%◌, ◌^◌, ◌<◌, ◌≤◌, eqb, ltb, ◌⊎◌, List, [], ◌∷◌, ◌++◌, length, get_or, drop, None, sym, ap, ◌∙◌, inl, inr, le_trans, le_of_eq, lt_of_lt_of_le, pow_mono, mul_assoc, pow-suc, zero-add, zero-mul, mul-one, div-one, one-add, arith, shr-shr}
 use native.Mathlib.Nat.{zero-div, div-eq_of_lt}
 use Rattle.std.specs.List.{AllByRecursion}
 use Rattle.std.proofs.lemmas.Bool.{cases_lt, lt-ltb, le-ltb, eq-eqb, ne_eqb}
 use Rattle.std.proofs.lemmas.Nat.{div-mul-add, mod_below, pow_pos, pow-add, shr_split}
 use Rattle.std.proofs.lemmas.List.{drop_more, drop_all, nil_from_length}
 use Rattle.packing.specs.Packing.{joined, digits}
-use Rattle.column.specs.Columns.{Row, Offer, row_of, rows_of, word_bits, words_for, offered}
+use Rattle.packing.proofs.Digits.{bits-lt, joined-digits, digits-joined}
+use Rattle.packing.proofs.Packed.{pow-mul}
+use Rattle.column.specs.Columns.{Row, Column, Offer, bits, cells, row_of, rows_of, word_bits, words_for, presence, offer_of, offered, cleaned}
 use Rattle.column.specs.Views.{is_value, block_rows}
-use Rattle.column.proofs.RowLaws.{length_digits, length-rows, digit_at, row_at, row_is}
+use Rattle.column.proofs.RowLaws.{length_digits, length-rows, length-bits, length-cells, below-bits, rows_back, digit_at, row_at, row_is}
 
 -- each word is a 64-bit word
 abbrev pub Words : List ℕ → Type 0
@@ -145,3 +147,29 @@ words-spare (w ∷ ws) n a l = go (cases_lt n 64) (λ h. words-spare ws (n - 64)
         let q : n / 64 ≡ suc (m / 64) = omega arith in
         let r : n % 64 ≡ m % 64 = omega arith in
         ap (λ z. ltb (joined (2 ^ 64) (w ∷ ws)) (2 ^ z)) s ∙ more-spare (joined (2 ^ 64) ws) w m a.0 ∙ ih h ∙ (λ i. eqb (get_or (w ∷ ws) (sym q i) 0 / 2 ^ (sym r i)) 0)
+
+-- ---- presence words of rows, and back
+
+-- the words of n bits hold every number of n bits
+pub words-hold : (n x : ℕ) → x < 2 ^ n → joined (2 ^ 64) (digits (2 ^ 64) (words_for n) x) ≡ x
+words-hold n x h =
+    let fits : 2 ^ n ≤ (2 ^ 64) ^ words_for n = le_trans (pow_mono (omega arith)) (le_of_eq (pow-mul 2 64 (words_for n))) in
+    joined-digits (2 ^ 64) (words_for n) x (omega arith) (lt_of_lt_of_le h fits)
+
+-- presence words join to the number of the bits
+pub presence-joined : (rs : List Row) → joined (2 ^ 64) (presence rs) ≡ joined 2 (bits rs)
+presence-joined rs = words-hold (length rs) (joined 2 (bits rs)) (bits-lt (length rs) (bits rs) (length-bits rs) (below-bits rs))
+
+pub presence-back : (rs : List Row) → word_bits (length rs) (presence rs) ≡ bits rs
+presence-back rs =
+    ap (digits 2 (length rs)) (presence-joined rs)
+    ∙ ap (λ n. digits 2 n (joined 2 (bits rs))) (sym (length-bits rs))
+    ∙ digits-joined 2 (bits rs) (below-bits rs)
+
+-- a column as it is handed in reads back as itself
+pub cleaned-stored : (c : Column) → cleaned (offer_of c) ≡ c
+cleaned-stored c =
+    ap (λ rs. record { kind = c.kind; rows = rs })
+    (ap (λ k. rows_of (word_bits k (presence c.rows)) (cells c.rows)) (length-cells c.rows)
+    ∙ ap (λ bs. rows_of bs (cells c.rows)) (presence-back c.rows)
+    ∙ rows_back c.rows)

@@ -7,7 +7,8 @@ ghost use Rattle.column.specs.Views.{block_rows};
 use crate::kinds::Kind;
 use crate::rows::is_set;
 
-// At most 64 rows: their cells, and the word that has their presence bits.
+// At most 64 rows: their cells, and the word that has their presence bits. Each loop makes its own from `chunks(64)` and the words:
+// no contract of a function that answers an `impl Iterator` could say which blocks come.
 #[derive(Clone, Copy)]
 pub struct Block<'a> {
     pub cells: &'a [u64],
@@ -34,6 +35,7 @@ impl<'a> Block<'a> {
         }
         let low = kind.key(kind.least());
         let high = kind.key(kind.greatest());
+        // Not `position`: tried, and what its closure told of each row did not close the proof.
         for (i, cell) in self.cells.iter().enumerate() {
             if is_set(self.word, i) {
                 let k = kind.key(*cell);
@@ -61,9 +63,11 @@ impl<'a> Block<'a> {
         requires room { length out.old ≡ length self.now.cells.now }
         ensures { out.new ≡ cells_of (block_rows self.now.word self.now.cells.now) }
     {
-        // `out` by index: under `iter_mut().zip` a loop's invariant cannot name what it holds.
-        for (i, cell) in self.cells.iter().enumerate() {
-            out[i] = if is_set(self.word, i) { *cell } else { 0 };
+        out.copy_from_slice(self.cells);
+        for (i, cell) in out.iter_mut().enumerate() {
+            if !is_set(self.word, i) {
+                *cell = 0;
+            }
         }
     }
 }

@@ -37,6 +37,7 @@ impl TryFrom<u8> for Kind {
     }
 }
 
+// Arms, and no cast: the numbers are stored, so they stand beside the kinds, whatever order the enum has.
 impl From<Kind> for u8 {
     ghost from_gives = { λ kind number. number ≡ number_of kind };
 

@@ -36,7 +36,8 @@ pub enum Refusal {
     ShortBuffers,
 }
 
-// Five questions that one definition answers, and no conversion: a number alone does not say which refusal it was.
+// Five questions that one definition answers, and no conversion: a number alone does not say which refusal it was. No `Option` where a
+// case does not name a row, a scheme or a level: the definition has 0 there, as the printed line of a refusal has.
 impl Refusal {
     pub fn number(self) -> u8
         ensures { result ≡ (said self).number }

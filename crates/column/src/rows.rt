@@ -4,7 +4,7 @@ ghost use Rattle.packing.specs.Packing.{written};
 ghost use Rattle.column.specs.Kinds.{number_of};
 ghost use Rattle.column.specs.Columns.{seen, cells as cells_of, has_blank, stray_from, words_wrong, or_else};
 ghost use Rattle.column.specs.Views.{is_value, block_rows, unless, Inspected, Hidden, Again};
-ghost use Rattle.column.specs.Words.{bit};
+ghost use Rattle.column.specs.Words.{bit, words_for};
 
 use crate::blocks::Block;
 use crate::kinds::Kind;
@@ -48,6 +48,7 @@ impl<'a> View<'a> {
     pub fn has_blank(&self) -> bool
         ensures { result ≡ has_blank (seen self.now).rows }
     {
+        // Not `any`: tried, and its closure does not know that a chunk has at most 64 cells.
         for (cells, word) in self.cells.chunks(64).zip(self.words) {
             let block = Block { cells, word: *word };
             if block.has_blank() {
@@ -74,6 +75,7 @@ impl<'a> View<'a> {
     fn first_stray(&self) -> Option<u32>
         ensures { result ≡ stray_from (number_of self.now.kind) 0 (seen self.now).rows }
     {
+        // Not `find_map`: as at `has_blank`.
         for (b, (cells, word)) in self.cells.chunks(64).zip(self.words).enumerate() {
             let block = Block { cells, word: *word };
             if let Some(row) = block.first_stray(self.kind, 64 * b) {
@@ -102,13 +104,20 @@ fn words_fit(words: &[u64], rows: usize) -> bool
     requires few { rows ≤ 131072 }
     ensures { result ≡ not (words_wrong rows words.now) }
 {
-    if words.len() != rows.div_ceil(64) {
+    if words.len() != words_for(rows) {
         return false;
     }
     match words.get(rows / 64) {
         Some(last) => *last >> (rows % 64) == 0,
         None => true,
     }
+}
+
+// Presence words for so many rows.
+pub fn words_for(rows: usize) -> usize
+    ensures { result ≡ words_for rows }
+{
+    rows.div_ceil(64)
 }
 
 // Whether bit `i` of a word is set.

@@ -1,5 +1,6 @@
 -- What tests of each row say of the values.
-use Rattle.std.proofs.Common.{◌≡◌, ℕ, zero, suc, ◌<◌, Bool, true, false, not, ◌||◌, eqb, List, [], ◌∷◌, length, get_or, Some, None, Option, sym, refl, ◌∙◌, true≢false, arith}
+use Rattle.std.proofs.Common.{◌≡◌, ℕ, zero, suc, ◌<◌, Bool, true, false, not, ◌||◌, eqb, List, [], ◌∷◌, length, get_or, Some, None, Option, sym, refl, ap, ◌∙◌, true≢false, arith}
+use Rattle.std.specs.Bool.{then_some}
 use Rattle.std.proofs.lemmas.Bool.{eqb-true, eqb-false, eq-eqb, ne_eqb, and_from, and_left, and_right, or_parts, or_from, true_from_ne_false}
 use Rattle.column.specs.Columns.{Row, Offer, rows_of, values_of, offered, word_bits}
 use Rattle.column.specs.Views.{is_value}
@@ -44,6 +45,17 @@ first-at (suc b ∷ bs) (c ∷ cs) zero e l t h = refl
 first-at (zero ∷ bs) (c ∷ cs) (suc i) e l t h = first-at bs cs i (omega arith) (omega arith) t (λ k m. h (suc k) (omega arith))
 first-at (suc b ∷ bs) (c ∷ cs) (suc i) e l t h = no (h 0 (omega arith))
 
+none_some : {X : Type 0} {n : ℕ} → ◌≡◌ {A = Option ℕ} (Some n) None → X
+none_some e = absurd (let z : ◌≡◌ {A = ℕ} 0 1 = cc in omega arith)
+
+not_given : (b : Bool) (x : ℕ) → then_some b x ≡ None → b ≡ false
+not_given true x e = none_some e
+not_given false x e = refl
+
+was_given : (b : Bool) (x v : ℕ) → then_some b x ≡ Some v → b ≡ true
+was_given true x v e = refl
+was_given false x v e = none_some (sym e)
+
 -- ---- of a column as it is offered
 
 module _ (o : Offer) where
@@ -55,12 +67,14 @@ module _ (o : Offer) where
   all_alike v true p q = sym (each_alike v (word_bits (length o.cells) o.words) o.cells as-many (p refl))
   all_alike v false p q = let w = q refl in sym (one-other v (word_bits (length o.cells) o.words) o.cells w.0 as-many w.1 w.2)
 
-  -- the row that was found, or none, and its cell
-  pub first_found : (found cell : Option ℕ) → (found ≡ None → cell ≡ None) → ((i : ℕ) → found ≡ Some i → cell ≡ Some (get_or o.cells i 0))
-      → (found ≡ None → (k : ℕ) → k < length o.cells → is_value (get_or (offered o) k None) ≡ false)
-      → ((i : ℕ) → found ≡ Some i → (i < length o.cells) × (is_value (get_or (offered o) i None) ≡ true))
-      → ((i : ℕ) → found ≡ Some i → (k : ℕ) → k < i → is_value (get_or (offered o) k None) ≡ false) → cell ≡ first_value (values_of (offered o))
-  first_found None cell a b p q h = a refl ∙ sym (all_blank (word_bits (length o.cells) o.words) o.cells as-many (p refl))
-  first_found (Some i) cell a b p q h =
-      let w = q i refl in
-      b i refl ∙ sym (first-at (word_bits (length o.cells) o.words) o.cells i as-many w.0 w.1 (h i refl))
+  -- the cell of row k if it is a value
+  abbrev pub given : ℕ → Option ℕ
+  given k = then_some (is_value (get_or (offered o) k None)) (get_or o.cells k 0)
+
+  -- the first of these, or none
+  pub first_given : (cell : Option ℕ) → (cell ≡ None → (k : ℕ) → k < length o.cells → given k ≡ None)
+      → ((v : ℕ) → cell ≡ Some v → (i : ℕ) × (i < length o.cells) × (given i ≡ Some v) × ((k : ℕ) → k < i → given k ≡ None)) → cell ≡ first_value (values_of (offered o))
+  first_given None p q = sym (all_blank (word_bits (length o.cells) o.words) o.cells as-many (λ k l. not_given _ _ (p refl k l)))
+  first_given (Some v) p q =
+      let w = q v refl in
+      sym (w.2) ∙ ap (λ b. then_some b (get_or o.cells w.0 0)) (was_given _ _ v w.2) ∙ sym (first-at (word_bits (length o.cells) o.words) o.cells w.0 as-many w.1 (was_given _ _ v w.2) (λ k m. not_given _ _ (w.3 k m)))

@@ -11,10 +11,10 @@ use column::views::View;
 pub fn first_value(view: View<'_>) -> Option<u64>
     ensures { result ≡ first_value (values (seen view.entry)) }
 {
-    let cells = view.cells;
-    (0..cells.len())
-        .find(|&row| view.is_present(row))
-        .map(|row| cells[row])
+    view.cells
+        .iter()
+        .enumerate()
+        .find_map(|(row, &cell)| view.is_present(row).then_some(cell))
 }
 
 // Whether no value differs from `value`; most rows are settled by their cell alone.
@@ -31,7 +31,7 @@ fn all_equal_to(view: View<'_>, value: u64) -> bool
 pub fn is_constant_for_compression(view: View<'_>) -> bool
     ensures { result ≡ constantly (values (seen view.entry)) }
 {
-    // Not `is_some_and`: tried, and the proof did not close.
+    // Not `is_some_and`: tried, and the proof did not find that its closure answers what `all_equal_to` does.
     match first_value(view) {
         Some(value) => all_equal_to(view, value),
         None => false,

@@ -1,5 +1,5 @@
 -- The parts as they lie in lent places, and joined again.
-use Rattle.std.proofs.Common.{◌≡◌, ℕ, zero, suc, ◌+◌, ◌-◌, ◌*◌, ◌^◌, ◌<◌, ◌≤◌, true, List, [], ◌∷◌, map, length, take, replicate, Some, None, Ok, Result, sym, refl, ap, ◌∙◌, arith}
+use Rattle.std.proofs.Common.{◌≡◌, ℕ, zero, suc, ◌-◌, ◌^◌, ◌<◌, ◌≤◌, true, List, [], ◌∷◌, map, length, take, replicate, Some, None, Ok, Result, sym, refl, ap, ◌∙◌, arith}
 use Rattle.std.proofs.ByRecursion.{All-weaker}
 use Rattle.std.proofs.lemmas.List.{length-map}
 use Rattle.std.proofs.lemmas.Bool.{eq-eqb, ne_eqb}
@@ -8,15 +8,16 @@ use Rattle.column.specs.declared.views.View.{View}
 use Rattle.column.specs.Kinds.{in_kind}
 use Rattle.column.specs.Columns.{Row, Column, Clean, rows_of, bits, cells, offer_seen, presence, seen, values, values_of, word_bits, words_for}
 use Rattle.column.proofs.KindLaws.{bounds}
-use Rattle.column.proofs.RowLaws.{length_digits, length-offered, length-rows}
-use Rattle.node.specs.Payloads.{blanks, ones, words_of}
+use Rattle.column.proofs.RowLaws.{length_digits, length-offered, length-rows, length-values}
+use Rattle.node.specs.Payloads.{ones, words_of}
+use Rattle.node.proofs.LeafLaws.{blank-held}
 use Rattle.node.proofs.WidthLaws.{clean-values}
 use Rattle.stats.specs.Stats.{stats, firsts, tally, distinct_part, values_in, distinct_values as distinct_in}
 use Rattle.stats.specs.Laws.{Ascends}
 use Rattle.stats.proofs.Standing.{tally-ascends}
 use Rattle.scheme.specs.Children.{narrow}
 use Rattle.scheme.specs.Memory.{Outline, outline}
-use Rattle.scheme.proofs.ChildLaws.{length-values, some_stored}
+use Rattle.scheme.proofs.ChildLaws.{some_stored}
 use Rattle.dict.specs.DictKeeps.{Found, all_found, tally-short}
 use Rattle.dict.specs.Dict.{Known, distinct_values, place_of, code_row, decode_cell, decoded, decoded_by, decoded_cells, dict_rows, dict_parts}
 
@@ -94,15 +95,6 @@ joined-codes n ds cs ws out l e =
     let lr : length rs ≡ n = length-rows (word_bits (length cs) ws) cs ∙ lb ∙ l in
     (λ i. rows_of (word_bits (lo i) ws) (e i)) ∙ decoded-rows ds (word_bits (length cs) ws) cs lb ∙ ap (λ q. decoded_by q n ds rs) (sym (eq-eqb (length rs) n lr))
 
-no_bits : (n : ℕ) (cs : List ℕ) → rows_of (digits 2 n 0) cs ≡ blanks n
-no_bits zero cs = refl
-no_bits (suc n) [] = ap (λ (rs : List Row). None ∷ rs) (no_bits n [])
-no_bits (suc n) (c ∷ cs) = ap (λ (rs : List Row). None ∷ rs) (no_bits n cs)
-
-no_words : (m : ℕ) → joined (2 ^ 64) (replicate m 0) ≡ 0
-no_words zero = refl
-no_words (suc m) = ap (λ x. x * 2 ^ 64 + 0) (no_words m)
-
 pub joined-blank : (n m : ℕ) (ds cs ws : List ℕ) (rs : List Row) → length cs ≡ n → ws ≡ replicate m 0 → (length rs ≡ n → ⊥) → rows_of (word_bits (length cs) ws) cs ≡ dict_rows n ds rs
 joined-blank n m ds cs ws rs l e h =
-    (λ i. rows_of (digits 2 (l i) ((ap (joined (2 ^ 64)) e ∙ no_words m) i)) cs) ∙ no_bits n cs ∙ ap (λ q. decoded_by q n ds rs) (sym (ne_eqb (length rs) n h))
+    blank-held n m cs ws l e ∙ ap (λ q. decoded_by q n ds rs) (sym (ne_eqb (length rs) n h))

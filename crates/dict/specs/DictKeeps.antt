@@ -7,12 +7,13 @@ use Rattle.std.proofs.lemmas.List.{length-map}
 use Rattle.std.proofs.lemmas.Bool.{eqb-true, eqb-false, eq-eqb}
 use Rattle.column.specs.Kinds.{key, in_kind}
 use Rattle.column.specs.Columns.{Row, Column, Clean, values_of, values}
-use Rattle.node.proofs.WidthLaws.{clean-kind, clean-short, clean-values}
+use Rattle.column.proofs.RowLaws.{length-values, clean-kind, clean-short}
+use Rattle.node.proofs.WidthLaws.{clean-values}
 use Rattle.stats.specs.Stats.{firsts, counted_by, counted, tally}
 use Rattle.stats.proofs.Standing.{Mem, tally-mem, tally-all}
 use Rattle.scheme.specs.Children.{narrow}
 use Rattle.scheme.specs.Meaning.{Parts, PartsKeep, Keeps}
-use Rattle.scheme.proofs.ChildLaws.{narrows, is-clean, length-values, length_some, values-some, some-clean}
+use Rattle.scheme.proofs.ChildLaws.{narrows, is-clean, length_some, values-some, some-clean}
 use Rattle.dict.specs.Dict.{distinct_values, place_by, place_of, code_row, decoded, decoded_by, dict_rows, dict_children, dict}
 
 -- ---- places

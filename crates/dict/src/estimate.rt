@@ -34,6 +34,7 @@ fn codes_size(bits: u32, values: u32, average: u32) -> u64
 }
 
 // From the statistics alone: how many times smaller the column becomes.
+// The kind stands beside them: it is the column's, which their type does not tie to them.
 pub fn estimate(kind: Kind, stats: &IntegerStats) -> EstimateVerdict
     ensures { (t : List ℕ) → Holds stats.now t → result ≡ dict_verdict (width_of (number_of kind)) (stats_seen stats.now t).count (stats_seen stats.now t).average (stats_seen stats.now t).distinct }
 {

@@ -1,22 +1,22 @@
 -- Frame keeps the laws of schemes.
-use Rattle.std.specs.Prelude.{◌≡◌, ℕ, suc, ◌+◌, ◌-◌, ◌%◌, ◌^◌, ◌<◌, ◌≤◌, min, Bool, true, false, cond, List, [], ◌∷◌, ◌++◌, map, length, Some, None, ◌==◌, nat_eq, slice_index, refl}
+use Rattle.std.specs.Prelude.{◌≡◌, ℕ, suc, ◌+◌, ◌-◌, ◌%◌, ◌^◌, ◌<◌, ◌≤◌, min, Bool, true, false, cond, List, [], ◌∷◌, ◌++◌, map, length, Some, None, nat_eq, slice_index, refl}
 use Rattle.std.proofs.Common.{zero-le, arith, pow_pos, sym, ap, ◌∙◌, subst, length-append}
 use Rattle.std.specs.List.{AllByRecursion}
 use Rattle.std.proofs.lemmas.List.{length-map}
-use Rattle.std.proofs.lemmas.Bool.{ne_eqb, eqb-true}
+use Rattle.std.proofs.lemmas.Bool.{ne_eqb}
 use Rattle.packing.specs.Packing.{packed_len, packed, unpacked, bit_length, Below}
 use Rattle.packing.proofs.Below.{below-append}
 use Rattle.packing.proofs.Bits.{bits-leading, bits-hold}
 use Rattle.packing.proofs.Packed.{length-packed, below-packed, packed-small, unpacked-packed, take-packed, drop-packed}
 use Rattle.column.specs.Kinds.{width, signed, key, key_by}
 use Rattle.column.specs.Columns.{Row, Column, Clean, bits, rows_of, values_of, values, has_blank}
-use Rattle.column.proofs.KindLaws.{bounds}
+use Rattle.column.proofs.KindLaws.{bounds, key-word}
+use Rattle.column.proofs.RowLaws.{clean-kind}
 use Rattle.stats.specs.Stats.{stats, least_of, max_minus_min}
-use Rattle.stats.specs.Laws.{occurs}
-use Rattle.stats.proofs.Standing.{right_of}
+use Rattle.stats.proofs.Standing.{occurs-all, right_of}
 use Rattle.node.specs.Payloads.{mask, flag_of, unmask, at_width}
 use Rattle.node.proofs.MaskLaws.{mask-back, length-mask, below-mask, mask-small, flag_small}
-use Rattle.node.proofs.WidthLaws.{InKind, width-most, zero_in, width_back, after-width, length-at_width, below-at_width, clean-kind, clean-values}
+use Rattle.node.proofs.WidthLaws.{InKind, width-most, zero_in, width_back, after-width, length-at_width, below-at_width, clean-values}
 use Rattle.scheme.specs.Meaning.{Parts, PartsKeep, Keeps}
 use Rattle.frame.specs.Frame.{base, over_base, column_bits, frame_payload, frame_len, added_to, frame_rows, frame_join, frame}
 
@@ -24,19 +24,6 @@ use Rattle.frame.specs.Frame.{base, over_base, column_bits, frame_payload, frame
 
 pub bits-few : (c : Column) → column_bits c ≤ 64
 bits-few c = let e = bits-leading 64 (max_minus_min c.kind (stats false c)) in omega arith
-
--- a value that stands in the list has what all have
-standing : (P : ℕ → Type 0) (v : ℕ) (ws : List ℕ) → AllByRecursion P ws → 1 ≤ occurs v ws → P v
-standing P v [] a h = absurd (omega arith)
-standing P v (w ∷ ws) a h = go (v == w) refl h (standing P v ws a.1)
-  where
-    go : (q : Bool) → (v == w) ≡ q → 1 ≤ cond q 1 0 + occurs v ws → (1 ≤ occurs v ws → P v) → P v
-    go true e l later = subst P (sym (eqb-true v w e)) a.0
-    go false e l later = later (omega arith)
-
-key-word : (s : Bool) (w : ℕ) → w < 2 ^ 64 → key_by s w < 2 ^ 64
-key-word true w h = omega arith
-key-word false w h = h
 
 -- v is a value of the kind, not before m, and its distance from m has b bits
 pub record Framed (k m b v : ℕ) : Type 0 where
@@ -67,8 +54,8 @@ based c h = go (values c) refl (clean-values c h)
         let low = t.least in
         let high = t.greatest in
         let among = clean-values c h in
-        let low_in = standing (InKind c.kind) low (values c) among ends.least in
-        let high_in = standing (InKind c.kind) high (values c) among ends.greatest in
+        let low_in = occurs-all (InKind c.kind) low (values c) among ends.least in
+        let high_in = occurs-all (InKind c.kind) high (values c) among ends.greatest in
         let hw = key-word (signed c.kind) high (bounds c.kind high high_in).word in
         let d = key c.kind high - key c.kind low in
         let b : column_bits c ≡ bit_length d =

@@ -4,12 +4,13 @@
 ghost use Rattle.frame.specs.Frame.{frame};
 ghost use Rattle.frame.specs.FrameLaws.{frame-keeps};
 
-use crate::payloads::{payload_len, read_least, read_values, write_distances, write_payload};
+use crate::payloads::{payload_len, read_values, write_distances, write_payload};
 use crate::reference::{Reference, bits_needed};
 use crate::verdicts::unmarked;
 use column::cleaned::Cleaned;
 use column::kinds::Kind;
 use node::extent::Extent;
+use node::leaves::read_one_at_width;
 use scheme::ctx::CompressorContext;
 use scheme::estimate::{CompressionEstimate, DeferredEstimate, EstimateScore, EstimateVerdict};
 use scheme::exclusion::{AncestorExclusion, DescendantExclusion};
@@ -87,10 +88,7 @@ impl Scheme for FrameScheme {
     ) -> Result<Shape, RowRefused> {
         let reference = Reference::of(array.view, mem);
         let extent = Extent::of(array.view);
-        let none = ChildShape {
-            kind: extent.kind,
-            rows: 0,
-        };
+        let none = ChildShape::none(extent.kind);
         Ok(Shape {
             payload: payload_len(extent, reference),
             cell_bits: reference.bits as u8,
@@ -109,7 +107,7 @@ impl Scheme for FrameScheme {
     }
 
     fn join(&self, stored: Stored<'_>, _mem: &mut [u64], cells: &mut [u64], words: &mut [u64]) {
-        let least = read_least(stored.kind, stored.payload);
+        let least = read_one_at_width(stored.kind, stored.payload);
         read_values(stored, least, cells, words);
     }
 }

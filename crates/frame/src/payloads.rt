@@ -1,18 +1,16 @@
 // The payload: the least value at the width, the distances packed, the mask.
-ghost use Rattle.std.specs.Prelude.{◌≡◌, ◌+◌, ◌-◌, ◌%◌, ◌^◌, ◌≤◌, min, map, length, drop, if◌then◌else◌, slice_index};
+ghost use Rattle.std.specs.Prelude.{◌≡◌, ◌+◌, ◌-◌, ◌%◌, ◌^◌, ◌≤◌, min, map, length, drop, if◌then◌else◌};
 ghost use Rattle.column.specs.Columns.{seen, values, words_for};
 ghost use Rattle.column.specs.Kinds.{number_of, width};
 ghost use Rattle.frame.specs.Frame.{base, over_base, body_by, payload_by, frame_len, added_to, frame_rows};
-ghost use Rattle.node.specs.Payloads.{from_width};
 ghost use Rattle.packing.specs.Packing.{Below, packed_len, written};
 ghost use Rattle.scheme.specs.Memory.{held};
 
 use crate::reference::Reference;
 use column::cleaned::Cleaned;
-use column::kinds::Kind;
 use node::extent::Extent;
-use node::leaves::{read_at_width, read_mask};
-use node::payloads::write_mask;
+use node::leaves::read_mask;
+use node::payloads::{write_at_width, write_mask};
 use node::slices::from;
 use packing::{pack, packed_len, unpack};
 use scheme::scheme::Stored;
@@ -63,19 +61,8 @@ pub fn write_payload(array: Cleaned<'_>, reference: Reference, distances: &[u64]
     requires room { length (payload_by (number_of array.view.kind) reference.least reference.bits distances.now (seen array.view).rows) ≤ length out.old }
     ensures { out.new ≡ written (payload_by (number_of array.entry.view.kind) reference.least reference.bits distances.now (seen array.entry.view).rows) out.old }
 {
-    let width = array.view.kind.width();
-    pack(&[reference.least], width, out);
-    let start = packed_len(width, 1);
+    let start = write_at_width(array.view.kind, &[reference.least], out);
     write_body(array, reference, distances, &mut out[start..]);
-}
-
-// The least value, as it is stored.
-pub fn read_least(kind: Kind, payload: &[u8]) -> u64
-    ensures { result ≡ slice_index (from_width (number_of kind) 1 payload.now) 0 }
-{
-    let mut least = [0; 1];
-    read_at_width(kind, payload, &mut least);
-    least[0]
 }
 
 // Each distance becomes a value again.
@@ -88,6 +75,7 @@ fn add_to_each(least: u64, cells: &mut [u64])
 }
 
 // Fills `cells` and `words` from the distances and the mask that follow the least value.
+// The places stay two slices, as `join` is given them: a clause sees a struct of two `&mut` by position alone.
 pub fn read_values(stored: Stored<'_>, least: u64, cells: &mut [u64], words: &mut [u64])
     requires cells { length cells.old ≡ stored.rows }
     requires words { length words.old ≡ words_for stored.rows }

@@ -12,6 +12,7 @@ use stats::integer::IntegerStats;
 use stats::options::GenerateStatsOptions;
 
 // The bits that the greatest distance needs.
+// The kind stands beside the statistics: it is the column's, which their type does not tie to them.
 pub fn bits_needed(kind: Kind, stats: &IntegerStats) -> u32
     ensures value { result ≡ frame_bits (number_of kind) (stats_seen stats.now []) }
     ensures few { result ≤ 64 }

@@ -1,14 +1,14 @@
 -- A node that holds a clean column fits its bytes and is as small as its levels allow.
-use Rattle.std.proofs.Common.{◌≡◌, ℕ, zero, suc, ◌+◌, ◌*◌, ◌<◌, ◌≤◌, List, [], ◌∷◌, length, Ok, Result, sym, refl, ap, subst, inl, inr, zero-lt-suc, arith}
+use Rattle.std.proofs.Common.{◌≡◌, ℕ, zero, suc, ◌+◌, ◌*◌, ◌≤◌, List, [], ◌∷◌, length, Ok, Result, sym, refl, ap, subst, inl, inr, arith}
 use Rattle.std.specs.List.{AllByRecursion}
-use Rattle.std.proofs.lemmas.Bool.{leb-true}
 use Rattle.packing.specs.Packing.{Below}
 use Rattle.packing.proofs.Below.{below-append}
 use Rattle.column.specs.Columns.{Column, Clean, values, has_blank}
+use Rattle.column.proofs.RowLaws.{clean-kind, clean-short}
 use Rattle.node.specs.declared.heads.Head.{Head}
 use Rattle.node.specs.Payloads.{plain_payload, constant_payload}
-use Rattle.node.specs.Nodes.{Node, leaf, over, fork, head_of, payload_of, children_of, weight, whole, flat, flats, height, plain_node, constant_node, blank_node, OneValue, Bare, FitHead, Fit}
-use Rattle.node.proofs.LeafLaws.{length-plain, plain-small, below_plain, length-constant, constant-small, below-constant, bare-fit}
+use Rattle.node.specs.Nodes.{Node, leaf, over, fork, head_of, payload_of, children_of, weight, whole, flat, flats, height, plain_node, constant_node, blank_node, Bare, FitHead, Fit}
+use Rattle.node.proofs.LeafLaws.{length-plain, plain-small, below_plain, length-constant, constant-small, below-constant, some-value, bare-fit}
 use Rattle.node.proofs.NodeBytes.{below-flat}
 use Rattle.scheme.specs.Meaning.{Meaning, Parts, AllClean, PartsKeep, PartedKeeps}
 use Rattle.scheme.specs.Banks.{AllKeep, at}
@@ -60,18 +60,8 @@ count-some (leaf h p) = omega arith
 count-some (over h p a) = omega arith
 count-some (fork h p a b) = omega arith
 
-pub clean-short : (c : Column) → Clean c → length c.rows ≤ 131072
-clean-short c cl = leb-true (length c.rows) 131072 cl.1
-
-pub clean-kind : (c : Column) → Clean c → c.kind ≤ 7
-clean-kind c cl = leb-true c.kind 7 cl.0
-
 leaf-sized : (l : ℕ) (h : Head) (p : List ℕ) → Fit (leaf h p) → length p ≤ 9 * 131072 + 16 → Sized l (leaf h p)
 leaf-sized l h p f s = let o = places-some l in record { fit = f; few = omega arith; short = omega arith; low = omega arith }
-
-one-some : (vs : List ℕ) → OneValue vs → 0 < length vs
-one-some [] o = absurd o
-one-some (v ∷ vs) o = zero-lt-suc (length vs)
 
 pub bare-sized : (l : ℕ) (c : Column) (n : Node) → Clean c → Bare c n → Sized l n
 bare-sized l c n cl (inl e) =
@@ -81,7 +71,7 @@ bare-sized l c n cl (inl e) =
     subst (Sized l) (sym e) (leaf-sized l (head_of (plain_node c)) (plain_payload c) (bare-fit c (plain_node c) cl (inl refl)) (omega arith))
 bare-sized l c n cl (inr (inl e)) =
     let k = constant-small c.kind (length c.rows) (has_blank c.rows) (clean-kind c cl) in
-    let q = length-constant c (one-some (values c) e.0) in
+    let q = length-constant c (some-value (values c) e.0) in
     let r = clean-short c cl in
     subst (Sized l) (sym e.1) (leaf-sized l (head_of (constant_node c)) (constant_payload c) (bare-fit c (constant_node c) cl (inr (inl (e.0, refl)))) (omega arith))
 bare-sized l c n cl (inr (inr e)) =

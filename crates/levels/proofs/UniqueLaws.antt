@@ -4,13 +4,13 @@ use Rattle.std.specs.List.{AllByRecursion}
 use Rattle.std.proofs.lemmas.Bool.{lt-ltb, le-ltb, and_parts, both_ways}
 use Rattle.column.specs.declared.refusals.Refusal.{Refusal}
 use Rattle.column.specs.Columns.{Row, Column, values}
+use Rattle.column.proofs.RowLaws.{length-values}
 use Rattle.node.specs.Nodes.{Node, weight, plain_node, constant_node, blank_node}
 use Rattle.scheme.specs.declared.estimate.EstimateVerdict.{EstimateVerdict}
 use Rattle.scheme.specs.declared.estimate.EstimateVerdict.TheVariants.{Skip, AlwaysUse, Ratio}
 use Rattle.scheme.specs.Scores.{valid, above}
 use Rattle.scheme.specs.Meaning.{Meaning, Parts, History}
 use Rattle.scheme.proofs.Ratios.{ratio-laws}
-use Rattle.scheme.proofs.ChildLaws.{length-values}
 use Rattle.constant.specs.Constants.{constantly}
 use Rattle.levels.specs.Choice.{Chosen}
 use Rattle.levels.specs.Levels.{Bound, Below, Kids, kid_step, kids_below, scheme_node, over_kids, bound_by, scheme_bound, lighter_by, lighter, or_plain, won, taken_constant, constant_by, leveled, levels}

@@ -12,6 +12,7 @@ use Rattle.column.specs.Kinds.{number_of, kind_of, name_of, in_kind}
 use Rattle.column.specs.Columns.{Row, Column, Clean, stray_by, stray_from}
 use Rattle.column.proofs.InspectLaws.{kind-none, kind-some}
 use Rattle.column.proofs.KindLaws.{bounds}
+use Rattle.column.proofs.RowLaws.{clean-kind}
 use Rattle.std.specs.Bool.{then_some}
 use Rattle.lines.specs.Lines.{comma, minus, fields_of, rows_in, kind_named, is_digit, number_after, negated, furthest, word_of, cell_read, value_row, field_read, row_and, rows_read, column_with, column_read, kind_in, row_fields, line_read, is_below, field_of, rows_line, name_by, line_of}
 use Rattle.lines.proofs.Digits.{digits-some}
@@ -213,5 +214,5 @@ line_at q rs e =
 
 pub line-back : (c : Column) → Clean c → LineBack c
 line-back c h =
-    let g = known_by c.kind (leb-true c.kind 7 h.0) (kind_of c.kind) refl in
+    let g = known_by c.kind (clean-kind c h) (kind_of c.kind) refl in
     subst (λ k. stray_from k 0 c.rows ≡ None → LineBack (record { kind = k; rows = c.rows })) g.1 (line_at g.0 c.rows) h.2

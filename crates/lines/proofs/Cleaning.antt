@@ -1,53 +1,13 @@
--- What is read is clean, and stands as its column is handed in.
-use Rattle.std.proofs.Common.{◌≡◌, ℕ, suc, ◌-◌, ◌*◌, ◌%◌, ◌^◌, ◌<◌, ◌≤◌, Bool, true, false, cond, eqb, leb, List, [], ◌∷◌, length, Some, None, Option, sym, refl, ap, ◌∙◌, subst, zero-le, le_trans, le_of_eq, lt_of_lt_of_le, arith, pow_pos, pow_mono}
-use Rattle.std.proofs.lemmas.List.{length-map}
+-- What is read is clean.
+use Rattle.std.proofs.Common.{◌≡◌, ℕ, suc, ◌-◌, ◌%◌, ◌^◌, ◌≤◌, Bool, true, false, cond, eqb, leb, List, [], ◌∷◌, length, Some, None, Option, refl, ap, ◌∙◌, subst, zero-le, arith}
 use Rattle.std.proofs.lemmas.Bool.{le-leb, leb-true}
-use Rattle.packing.specs.Packing.{joined, digits, Below}
-use Rattle.packing.proofs.Digits.{joined-digits, digits-joined, joined-lt}
-use Rattle.packing.proofs.Packed.{pow-mul}
 use Rattle.column.specs.declared.kinds.Kind.{Kind}
 use Rattle.column.specs.declared.kinds.Kind.TheVariants.{U8, U16, U32, U64, I8, I16, I32, I64}
 use Rattle.column.specs.Kinds.{number_of, in_kind}
-use Rattle.column.specs.Columns.{Row, Column, Clean, cell_of, bit_of, cells, bits, rows_of, word_bits, words_for, presence, offered, cleaned, offer_of, stray_by, stray_from}
+use Rattle.column.specs.Columns.{Row, Clean, stray_by, stray_from}
 use Rattle.column.proofs.KindLaws.{in-kind}
 use Rattle.std.specs.Bool.{then_some}
 use Rattle.lines.specs.Lines.{minus, furthest, word_of, cell_read, value_row, field_read, number_of_digits, row_and, rows_read}
-
--- ---- there and back
-
-below-bits : (rs : List Row) → Below 2 (bits rs)
-below-bits [] = tt
-below-bits (None ∷ rs) = (omega arith, below-bits rs)
-below-bits (Some w ∷ rs) = (omega arith, below-bits rs)
-
-bits-lt : (rs : List Row) → joined 2 (bits rs) < 2 ^ length rs
-bits-lt rs = subst (λ n. joined 2 (bits rs) < 2 ^ n) (length-map rs bit_of) (joined-lt 2 (bits rs) (below-bits rs))
-
-words_back : (rs : List Row) → joined (2 ^ 64) (presence rs) ≡ joined 2 (bits rs)
-words_back rs =
-    let w = words_for (length rs) in
-    joined-digits (2 ^ 64) w (joined 2 (bits rs)) (pow_pos 64)
-    (lt_of_lt_of_le (bits-lt rs) (le_trans (pow_mono {i = length rs} {j = 64 * w} (omega arith)) (le_of_eq (pow-mul 2 64 w))))
-
-bits_back : (rs : List Row) → word_bits (length rs) (presence rs) ≡ bits rs
-bits_back rs =
-    ap (digits 2 (length rs)) (words_back rs)
-    ∙ ap (λ n. digits 2 n (joined 2 (bits rs))) (sym (length-map rs bit_of))
-    ∙ digits-joined 2 (bits rs) (below-bits rs)
-
-rows_back : (rs : List Row) → rows_of (bits rs) (cells rs) ≡ rs
-rows_back [] = refl
-rows_back (None ∷ rs) = ap (λ ss. None ∷ ss) (rows_back rs)
-rows_back (Some w ∷ rs) = ap (λ ss. Some w ∷ ss) (rows_back rs)
-
-pub offer-back : (c : Column) → cleaned (offer_of c) ≡ c
-offer-back c =
-    let rs = c.rows in
-    let same : offered (offer_of c) ≡ rs =
-    ap (λ n. rows_of (word_bits n (presence rs)) (cells rs)) (length-map rs cell_of)
-    ∙ ap (λ bs. rows_of bs (cells rs)) (bits_back rs)
-    ∙ rows_back rs in
-    λ i. record { kind = c.kind; rows = same i }
 
 -- ---- each value read lies in the kind
 

@@ -1,9 +1,10 @@
 -- A line from its first field and the rows after it.
-use Rattle.std.proofs.Common.{◌≡◌, ℕ, ◌≤◌, List, length, Some, None, Ok, Err, Option, Result, sym, ap, ◌∙◌, subst, arith}
-use Rattle.std.proofs.lemmas.Bool.{leb-true}
+use Rattle.std.proofs.Common.{◌≡◌, ℕ, ◌≤◌, List, Some, None, Ok, Err, Option, Result, sym, ap, ◌∙◌, subst, arith}
 use Rattle.column.specs.declared.kinds.Kind.{Kind}
 use Rattle.column.specs.Kinds.{number_of}
 use Rattle.column.specs.Columns.{Row, Column, Clean, cleaned, offer_of}
+use Rattle.column.proofs.RowLaws.{clean-short}
+use Rattle.column.proofs.WordLaws.{cleaned-stored}
 use Rattle.lines.specs.declared.columns.LineColumn.{LineColumn}
 use Rattle.lines.specs.declared.columns.LineError.{LineError}
 use Rattle.lines.specs.declared.columns.LineError.TheVariants.{Unreadable, TooManyRows, NoMemory}
@@ -11,7 +12,7 @@ use Rattle.lines.specs.Answers.{Given, Reads, Back}
 use Rattle.lines.specs.Held.{held}
 use Rattle.lines.specs.Lines.{fields_of, rows_in, rows_read, column_with, column_read, kind_in, row_fields, line_read, line_of}
 use Rattle.lines.proofs.Back.{line-back}
-use Rattle.lines.proofs.Cleaning.{offer-back, read-clean}
+use Rattle.lines.proofs.Cleaning.{read-clean}
 
 module _ (t : List ℕ) where
   pub no-kind : kind_in (fields_of t) ≡ None → line_read t ≡ None
@@ -25,7 +26,7 @@ module _ (t : List ℕ) where
         → held l ≡ offer_of (record { kind = number_of q; rows = rs }) → Given t l
     given-rows few l rs read is =
         let c : Column = record { kind = number_of q; rows = rs } in
-        let back : cleaned (held l) ≡ c = ap cleaned is ∙ offer-back c in
+        let back : cleaned (held l) ≡ c = ap cleaned is ∙ cleaned-stored c in
         record {
           few = few;
           column = line-is ∙ ap (column_with (number_of q)) read ∙ ap Some (sym back);
@@ -44,5 +45,5 @@ back_from t (Err Unreadable) g c h e =
     let b = g.1 in
     let z : ◌≡◌ {A = ℕ} 0 1 = cc in omega arith
 back_from t (Err TooManyRows) g c h e =
-    omega (arith, ap rows_in e ∙ (line-back c h).count, leb-true (length c.rows) 131072 h.1)
+    omega (arith, ap rows_in e ∙ (line-back c h).count, clean-short c h)
 back_from t (Err NoMemory) g c h e = tt

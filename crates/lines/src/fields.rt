@@ -20,14 +20,14 @@ const KINDS: [Kind; 8] = [
     Kind::I64,
 ];
 
-// Whether a field ends before this character.
+// Whether a field ends before this character. A function, so that chains and the definition of a line ask by one word.
 pub fn is_comma(b: u8) -> bool
     ensures { result ≡ (b == comma) }
 {
     b == b','
 }
 
-// How many commas there are: as many as rows.
+// How many commas there are.
 pub fn count_commas(text: &[u8]) -> usize
     ensures { result ≡ count_by (λ c. c == comma) text.now }
 {

@@ -5,24 +5,20 @@ use Rattle.std.proofs.lemmas.List.{drop_all}
 use Rattle.std.proofs.lemmas.Bool.{and_from, le-leb}
 use Rattle.packing.specs.Packing.{joined, digits, packed_len, Below, written}
 use Rattle.packing.proofs.Below.{below-append}
+use Rattle.packing.proofs.Digits.{no_words}
 use Rattle.packing.proofs.Packed.{packed-small}
 use Rattle.packing.proofs.Written.{take-written, drop-written}
 use Rattle.column.specs.Kinds.{width}
 use Rattle.column.specs.Columns.{Row, Column, bits, cells, row_of, rows_of, values_of, values, has_blank, word_bits, words_for, Clean}
-use Rattle.column.proofs.RowLaws.{length-cells}
+use Rattle.column.proofs.RowLaws.{length-cells, rows_back, clean-kind, clean-short}
 use Rattle.node.specs.declared.heads.Head.{Head}
 use Rattle.node.specs.Payloads.{flag_of, mask, unmask, words_of, at_width, plain_payload, plain_len, plain_rows, first_of, constant_payload, constant_len, constant_from, constant_rows, blanks}
 use Rattle.node.specs.Nodes.{Node, leaf, head_of, payload_of, plain_node, constant_node, blank_node, OneValue, Bare, Fit}
 use Rattle.node.specs.Reading.{held_rows, rows_read, leaf_read, readable, Filled, LeafBack}
 use Rattle.node.proofs.MaskLaws.{mask-back, length-mask, below-mask, mask-small, flag_small, length-words, word-bits}
-use Rattle.node.proofs.WidthLaws.{InKind, width-most, width_back, after-width, length-at_width, below-at_width, clean-kind, clean-short, clean-values, clean-cells}
+use Rattle.node.proofs.WidthLaws.{InKind, width-most, width_back, after-width, length-at_width, below-at_width, clean-values, clean-cells}
 
 -- ---- plain
-
-pub rows_back : (rs : List Row) → rows_of (bits rs) (cells rs) ≡ rs
-rows_back [] = refl
-rows_back (None ∷ rs) = ap (λ (xs : List Row). None ∷ xs) (rows_back rs)
-rows_back (Some w ∷ rs) = ap (λ (xs : List Row). Some w ∷ xs) (rows_back rs)
 
 pub plain_back : (c : Column) → Clean c → plain_rows c.kind (length c.rows) (flag_of c.rows) (plain_payload c) ≡ c.rows
 plain_back c h =
@@ -106,7 +102,7 @@ bare-below c n (inl e) = subst (λ m. Below 256 (payload_of m)) (sym e) (below_p
 bare-below c n (inr (inl e)) = subst (λ m. Below 256 (payload_of m)) (sym e.1) (below-constant c)
 bare-below c n (inr (inr e)) = subst (λ m. Below 256 (payload_of m)) (sym e.1) tt
 
-some-value : (vs : List ℕ) → OneValue vs → 0 < length vs
+pub some-value : (vs : List ℕ) → OneValue vs → 0 < length vs
 some-value [] o = absurd o
 some-value (v ∷ vs) o = zero-lt-suc (length vs)
 
@@ -156,10 +152,6 @@ blank-rows : (n : ℕ) (cs : List ℕ) → rows_of (digits 2 n 0) cs ≡ blanks 
 blank-rows zero cs = refl
 blank-rows (suc n) [] = ap (λ (rs : List Row). None ∷ rs) (blank-rows n [])
 blank-rows (suc n) (c ∷ cs) = ap (λ (rs : List Row). None ∷ rs) (blank-rows n cs)
-
-no_words : (w : ℕ) → joined (2 ^ 64) (replicate w 0) ≡ 0
-no_words zero = refl
-no_words (suc w) = let e = no_words w in omega arith
 
 pub blank-held : (n w : ℕ) (cs ws : List ℕ) → length cs ≡ n → ws ≡ replicate w 0 → held_rows cs ws ≡ blanks n
 blank-held n w cs ws c e = (λ i. rows_of (digits 2 (c i) ((ap (joined (2 ^ 64)) e ∙ no_words w) i)) cs) ∙ blank-rows n cs

@@ -4,7 +4,6 @@ pub mod LeafLaws
 pub mod MaskLaws
 pub mod NodeBytes
 pub mod SpareLaws
-pub mod ViewLaws
 pub mod WeightLaws
 pub mod WidthLaws
 pub mod WriteLaws

@@ -1,21 +1,14 @@
 -- Masks: their length, their bytes as presence words give them, and the bits back.
-use Rattle.std.proofs.Common.{◌≡◌, ℕ, zero, suc, ◌+◌, ◌/◌, ◌^◌, ◌<◌, ◌≤◌, Bool, true, false, List, [], ◌∷◌, length, Some, None, sym, refl, ap, ◌∙◌, subst, zero-le, le_trans, le_of_eq, le_refl, lt_of_lt_of_le, zero-lt-suc, arith, pow_mono}
+use Rattle.std.proofs.Common.{◌≡◌, ℕ, zero, suc, ◌+◌, ◌/◌, ◌^◌, ◌<◌, ◌≤◌, Bool, true, false, List, [], ◌∷◌, length, Some, None, sym, refl, ap, ◌∙◌, zero-le, le_refl, zero-lt-suc, arith}
 use mir.Val.{bool_byte}
-use Rattle.std.proofs.lemmas.List.{length-map}
 use Rattle.std.proofs.lemmas.Bool.{true≢false}
 use Rattle.packing.specs.Packing.{joined, digits, packed_len, packed, unpacked, Below}
-use Rattle.packing.proofs.Digits.{length_digits, below-digits, joined-lt, joined-digits, digits-joined}
-use Rattle.packing.proofs.Packed.{length-packed, below-packed, pow-mul, unpacked-packed}
-use Rattle.column.specs.Columns.{Row, bit_of, bits, has_blank, word_bits, words_for, presence}
+use Rattle.packing.proofs.Digits.{length_digits, below-digits, digits-joined, bits-lt}
+use Rattle.packing.proofs.Packed.{length-packed, below-packed, unpacked-packed}
+use Rattle.column.specs.Columns.{Row, bits, has_blank, word_bits, words_for, presence}
+use Rattle.column.proofs.RowLaws.{length-bits, below-bits}
+use Rattle.column.proofs.WordLaws.{words-hold, presence-joined}
 use Rattle.node.specs.Payloads.{flag_by, flag_of, mask_by, mask, mask_len, ones, unmask, words_of}
-
-pub length-bits : (rs : List Row) → length (bits rs) ≡ length rs
-length-bits rs = length-map rs bit_of
-
-pub below-bits : (rs : List Row) → Below 2 (bits rs)
-below-bits [] = tt
-below-bits (None ∷ rs) = (zero-lt-suc 1, below-bits rs)
-below-bits (Some w ∷ rs) = (le_refl 2, below-bits rs)
 
 -- ---- the mask
 
@@ -63,19 +56,9 @@ mask-back rs = go (has_blank rs) refl
 
 -- ---- presence words
 
--- the words of n bits hold every number of n bits
-pub words-hold : (n x : ℕ) → x < 2 ^ n → joined (2 ^ 64) (digits (2 ^ 64) (words_for n) x) ≡ x
-words-hold n x h =
-    let fits : 2 ^ n ≤ (2 ^ 64) ^ words_for n = le_trans (pow_mono (omega arith)) (le_of_eq (pow-mul 2 64 (words_for n))) in
-    joined-digits (2 ^ 64) (words_for n) x (omega arith) (lt_of_lt_of_le h fits)
-
-bits-lt : (n : ℕ) (bs : List ℕ) → length bs ≡ n → Below 2 bs → joined 2 bs < 2 ^ n
-bits-lt n bs e h = subst (λ m. joined 2 bs < 2 ^ m) e (joined-lt 2 bs h)
-
 -- the mask's bytes are those of the presence words
 pub mask-words : (rs : List Row) → packed 1 (bits rs) ≡ digits 256 (packed_len 1 (length rs)) (joined (2 ^ 64) (presence rs))
-mask-words rs =
-    (λ i. digits 256 (packed_len 1 (length-bits rs i)) (sym (words-hold (length rs) (joined 2 (bits rs)) (bits-lt (length rs) (bits rs) (length-bits rs) (below-bits rs))) i))
+mask-words rs = λ i. digits 256 (packed_len 1 (length-bits rs i)) (sym (presence-joined rs) i)
 
 pub word-bits : (n : ℕ) (bs : List ℕ) → length bs ≡ n → Below 2 bs → word_bits n (words_of n bs) ≡ bs
 word-bits n bs e h =

@@ -3,13 +3,14 @@ use Rattle.std.proofs.Common.{◌≡◌, ℕ, zero, suc, ◌+◌, ◌-◌, ◌%�
 use Rattle.std.specs.List.{AllByRecursion}
 use Rattle.std.proofs.lemmas.List.Edits.{map_over_more}
 use Rattle.std.proofs.lemmas.List.{drop_more, get_or_at, get_or_default, length-drop, length-map, length-take-le}
-use Rattle.std.proofs.lemmas.Bool.{false≢true, ltb-true, ltb-false, lt-ltb, le-ltb, leb-true, cases_lt, cond-true, cond-false, cond_both}
+use Rattle.std.proofs.lemmas.Bool.{false≢true, ltb-true, ltb-false, lt-ltb, le-ltb, cases_lt, cond-true, cond-false, cond_both}
 use Rattle.packing.specs.Packing.{packed_len, low_bits, Below}
 use Rattle.packing.proofs.Below.{length-low_bits, below-low_bits}
 use Rattle.packing.proofs.Packed.{length-packed, below-packed, unpacked-front, unpacked-take, drop-packed}
 use Rattle.column.specs.Kinds.{width, signed, greatest, in_kind}
 use Rattle.column.specs.Columns.{Row, Column, cells, values_of, values, stray_by, stray_from, Clean}
 use Rattle.column.proofs.KindLaws.{bounds}
+use Rattle.column.proofs.RowLaws.{clean-kind}
 use Rattle.node.specs.Payloads.{widen_by, widen, at_width, from_width}
 
 -- a kind is one of eight
@@ -77,12 +78,6 @@ pub after-width : (k n : ℕ) (ws rest : List ℕ) → length ws ≡ n → drop 
 after-width k n ws rest e = drop-packed (width k) n (low_bits (width k) ws) rest (length-low_bits (width k) ws ∙ e)
 
 -- ---- clean columns
-
-pub clean-kind : (c : Column) → Clean c → c.kind ≤ 7
-clean-kind c h = leb-true c.kind 7 h.0
-
-pub clean-short : (c : Column) → Clean c → length c.rows ≤ 131072
-clean-short c h = leb-true (length c.rows) 131072 h.1
 
 stray-step : (k i w : ℕ) (later : Option ℕ) → stray_by (in_kind k w) i later ≡ None → InKind k w × (later ≡ None)
 stray-step k i w later e = go (in_kind k w) refl e

@@ -1,5 +1,5 @@
 // The rows of nodes without a scheme, read back; total on any bytes.
-ghost use Rattle.std.specs.Prelude.{◌≡◌, ◌-◌, ◌^◌, ◌≤◌, true, length, is_some};
+ghost use Rattle.std.specs.Prelude.{◌≡◌, ◌-◌, ◌^◌, ◌≤◌, true, length, is_some, slice_index};
 ghost use Rattle.column.specs.Columns.{words_for};
 ghost use Rattle.column.specs.Kinds.{number_of, width, signed};
 ghost use Rattle.node.specs.Payloads.{unmask, words_of, widen, from_width, plain_rows, constant_rows};
@@ -10,16 +10,18 @@ ghost use Rattle.packing.specs.Packing.{Below, written};
 use crate::heads::Head;
 use crate::slices::from;
 use column::kinds::Kind;
+use column::rows::words_for;
 use column::views::MAX_ROWS;
 use packing::{low_bits, packed_len, unpack};
 
 // Presence words from a mask, all rows present without one, to the front of `words`; spare bits 0.
+// The flag is the stored byte, which any bytes may bear; where it is 0 there is no mask, and no bytes are looked at.
 pub fn read_mask(flag: u8, bytes: &[u8], rows: usize, words: &mut [u64])
     requires few { rows ≤ 131072 }
     requires room { words_for rows ≤ length words.old }
     ensures { words.new ≡ written (words_of rows (unmask flag rows bytes.now)) words.old }
 {
-    let words = &mut words[..rows.div_ceil(64)];
+    let words = &mut words[..words_for(rows)];
     if flag == 0 {
         words.fill(u64::MAX);
     } else {
@@ -39,6 +41,15 @@ pub fn read_at_width(kind: Kind, bytes: &[u8], cells: &mut [u64])
     if kind.is_signed() {
         extend_signs(kind, cells);
     }
+}
+
+// The one value at the kind's width, as much of it as the bytes have.
+pub fn read_one_at_width(kind: Kind, bytes: &[u8]) -> u64
+    ensures { result ≡ slice_index (from_width (number_of kind) 1 bytes.now) 0 }
+{
+    let mut value = [0; 1];
+    read_at_width(kind, bytes, &mut value);
+    value[0]
 }
 
 // Cells at a signed kind's width as words.
@@ -101,6 +112,7 @@ struct Leaf<'a> {
 }
 
 // The places stay two slices: of a struct of two `&mut`, a clause names what was written by position alone.
+// The two clauses on them are no facts of a leaf: one relates the two places, the other bounds the place of the cells.
 impl Leaf<'_> {
     fn read(self, cells: &mut [u64], words: &mut [u64])
         requires few { length cells.old ≤ 131072 }
@@ -129,9 +141,7 @@ impl Leaf<'_> {
         requires words { length words.old ≡ words_for (length cells.old) }
         ensures { held_rows cells.new words.new ≡ constant_rows (number_of self.entry.kind) (length cells.old) self.entry.flag self.entry.payload.now }
     {
-        let mut value = [0; 1];
-        read_at_width(self.kind, self.payload, &mut value);
-        cells.fill(value[0]);
+        cells.fill(read_one_at_width(self.kind, self.payload));
         let len = packed_len(self.kind.width(), 1);
         read_mask(self.flag, from(self.payload, len), cells.len(), words);
     }
@@ -150,7 +160,7 @@ pub fn read_leaf(head: &Head, payload: &[u8], cells: &mut [u64], words: &mut [u6
         return None;
     }
     let (cells, _) = cells.split_at_mut_checked(rows)?;
-    let (words, _) = words.split_at_mut_checked(rows.div_ceil(64))?;
+    let (words, _) = words.split_at_mut_checked(words_for(rows))?;
     let leaf = Leaf {
         form,
         kind,

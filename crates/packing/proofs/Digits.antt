@@ -1,5 +1,5 @@
 -- The digits of a number in a base, and the number that digits join to.
-use Rattle.std.proofs.Common.{◌≡◌, ℕ, zero, suc, ◌+◌, ◌-◌, ◌*◌, ◌/◌, ◌%◌, ◌^◌, ◌<◌, ◌≤◌, List, [], ◌∷◌, ◌++◌, length, sym, refl, ap, ◌∙◌, add_assoc, mod-lt, mod-eq_of_lt, zero-lt-suc, mul_assoc, add-mul, suc-add, pow-suc, div-add-mod', zero-add, mul-one, div-one, arith, pow-add}
+use Rattle.std.proofs.Common.{◌≡◌, ℕ, zero, suc, ◌+◌, ◌-◌, ◌*◌, ◌/◌, ◌%◌, ◌^◌, ◌<◌, ◌≤◌, List, [], ◌∷◌, ◌++◌, length, replicate, sym, refl, ap, ◌∙◌, subst, add_assoc, mod-lt, mod-eq_of_lt, zero-lt-suc, mul_assoc, add-mul, suc-add, pow-suc, div-add-mod', zero-add, mul-one, div-one, arith, pow-add}
 use native.Mathlib.Nat.{div-div-eq-div-mul, mul-add-mod_self_right, mul-add-div_right, one-le-pow, pow-zero, pow-succ'}
 use lib.Arith.{digits_lt, digits_div, digits_mod, mod-mul}
 use Rattle.packing.specs.Packing.{joined, digits, Below}
@@ -56,3 +56,12 @@ digits-out b m n s fill hi acc e h p =
     let low : digits b m (acc % 2 ^ s) ≡ digits b m acc =
     rw (← e) (sym (digits-high b m (acc / b ^ m) (acc % b ^ m) p) ∙ ap (digits b m) (div-add-mod' acc (b ^ m))) in
     rw (digits-++, v, low, ← e, digits-high b m (hi * 2 ^ (fill - s)) acc p, mul-add-div_right (one-le-pow m b p) (hi * 2 ^ (fill - s)) acc)
+
+-- ---- numbers of n bits, and words of 0
+
+pub bits-lt : (n : ℕ) (bs : List ℕ) → length bs ≡ n → Below 2 bs → joined 2 bs < 2 ^ n
+bits-lt n bs e h = subst (λ m. joined 2 bs < 2 ^ m) e (joined-lt 2 bs h)
+
+pub no_words : (m : ℕ) → joined (2 ^ 64) (replicate m 0) ≡ 0
+no_words zero = refl
+no_words (suc m) = let e = no_words m in omega arith

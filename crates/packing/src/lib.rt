@@ -4,7 +4,7 @@
 ghost use Rattle.std.specs.Prelude.{◌≡◌, ℕ, ◌+◌, ◌*◌, ◌%◌, ◌^◌, ◌<◌, ◌≤◌, List, ◌++◌, length, take, drop};
 ghost use Rattle.packing.specs.Packing.{joined, digits, packed_len, packed, unpacked, low_bits, Below, written, written_at, bit_length};
 
-// A number's bytes, the lowest first.
+// A number's bytes, the lowest first. A function, since `digits` is then the word for its result in the proof of `put`.
 fn low_first(v: u64) -> [u8; 8]
     ensures { result ≡ digits 256 8 v }
 {
@@ -38,6 +38,7 @@ fn get_word(src: &[u8], at: usize) -> u64
 {
     let at = at.min(src.len());
     let left = src.len() - at;
+    // Two calls: of a length that it knows the compiler makes one load. By one call, `left.min(8)`, `unpack` took a sixth more instructions.
     if left < 8 {
         get(src, at, left)
     } else {
@@ -68,7 +69,7 @@ pub fn pack(cells: &[u64], k: u32, out: &mut [u8])
     requires room { packed_len k (length cells.now) ≤ length out.old }
     ensures { out.new ≡ written (packed k (low_bits k cells.now)) out.old }
 {
-    // `fill` bits, to be written at `at`
+    // `fill` bits, to be written at `at`: a place in the bytes, which no cell's place tells
     let mut acc: u128 = 0;
     let mut fill: u32 = 0;
     let mut at: usize = 0;
@@ -91,7 +92,7 @@ pub fn unpack(bytes: &[u8], k: u32, cells: &mut [u64])
     ensures value { cells.new ≡ unpacked k (length cells.old) bytes.now }
     ensures back { (xs rest : List ℕ) → length xs ≡ length cells.old → Below (2 ^ k) xs → bytes.now ≡ packed k xs ++ rest → cells.new ≡ xs }
 {
-    // `ready` bits, from before `pos`, that no cell has yet
+    // `ready` bits, from before `pos` in the bytes, that no cell has yet
     let mut acc: u128 = 0;
     let mut ready: u32 = 0;
     let mut pos: usize = 0;

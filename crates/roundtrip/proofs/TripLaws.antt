@@ -5,11 +5,11 @@ use Rattle.std.proofs.lemmas.List.{take-append-le, take_all}
 use Rattle.std.proofs.lemmas.Bool.{lt-ltb, ltb-true}
 use Rattle.packing.specs.Packing.{written}
 use Rattle.column.specs.Columns.{Column, Clean, Offer, cleaned}
+use Rattle.column.proofs.WordLaws.{cleaned-stored}
 use Rattle.scheme.specs.declared.scheme.ChildShape.{ChildShape}
 use Rattle.scheme.specs.declared.scheme.Shape.{Shape}
 use Rattle.scheme.specs.Meaning.{Meaning, Parts, Keeps, PartsKeep, PartedKeeps, NoLonger}
 use Rattle.scheme.specs.Memory.{outline, stored_child, child_seen, shape_seen, payload_in}
-use Rattle.scheme.proofs.StoredLaws.{cleaned-stored}
 use Rattle.roundtrip.specs.Trips.{child_rows, child_offer, gathered, Returned}
 
 -- ---- what a shape says

@@ -9,6 +9,7 @@ ghost use Rattle.scheme.specs.Memory.{Room, spare, held};
 
 use column::cleaned::Cleaned;
 use column::kinds::Kind;
+use column::rows::words_for;
 use column::views::View;
 use scheme::scheme::{ChildShape, RowRefused, Scheme, Shape, Stored};
 
@@ -24,7 +25,7 @@ fn child_in<'a>(child: Option<ChildShape>, cells: &'a [u64], words: &'a [u64]) -
         Some(ChildShape { kind, rows }) => View {
             kind,
             cells: &cells[..rows],
-            words: &words[..rows.div_ceil(64)],
+            words: &words[..words_for(rows)],
         },
         None => View {
             kind: Kind::U8,

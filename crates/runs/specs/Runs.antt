@@ -30,6 +30,7 @@ unless true v vs = vs
 unless false v vs = v ∷ vs
 
 -- the first value of each run, after a run of p
+-- (`heads` of stats keeps a value until its run ends, this goes step for step with `ends_after`)
 abbrev pub heads_after : ℕ → List ℕ → List ℕ
 heads_after p [] = []
 heads_after p (v ∷ vs) = unless (p == v) v (heads_after v vs)

@@ -6,12 +6,13 @@ use Rattle.std.proofs.ByRecursion.{All-weaker}
 use Rattle.std.proofs.lemmas.Bool.{eqb-true}
 use Rattle.column.specs.Kinds.{in_kind}
 use Rattle.column.specs.Columns.{Column, Clean, bits, filled, has_blank, values}
+use Rattle.column.proofs.RowLaws.{length-values, clean-kind, clean-short}
 use Rattle.node.specs.Payloads.{flag_of, mask}
 use Rattle.node.proofs.MaskLaws.{mask-back, length-mask, mask-small, below-mask, flag_small}
-use Rattle.node.proofs.WidthLaws.{clean-kind, clean-short, clean-values}
+use Rattle.node.proofs.WidthLaws.{clean-values}
 use Rattle.scheme.specs.Children.{narrow}
 use Rattle.scheme.specs.Meaning.{Parts, PartsKeep, Keeps}
-use Rattle.scheme.proofs.ChildLaws.{narrows, length-values, filled-back, length_some, values-some, some-clean}
+use Rattle.scheme.proofs.ChildLaws.{narrows, filled-back, length_some, values-some, some-clean}
 use Rattle.runs.specs.Runs.{unless, heads_after, heads, ends_after, ends, times, unrun, runs_children, run_length}
 
 -- ---- the values again

@@ -3,6 +3,7 @@ ghost use Rattle.std.specs.Prelude.{◌≡◌, ◌≤◌, length, take};
 ghost use Rattle.runs.specs.Runs.{heads, ends as ends_of};
 
 // The first value of each run to `firsts`, how many values stand up to its end to `ends`; how many runs there are.
+// The one of `stats` works in place, in a table of values with their counts; here the values stay and the parts go to two lent places.
 pub fn split_runs(values: &[u64], firsts: &mut [u64], ends: &mut [u64]) -> usize
     requires firsts { length values.now ≤ length firsts.old }
     requires ends { length values.now ≤ length ends.old }

@@ -11,6 +11,7 @@ pub fn write_runs(firsts: &[u64], ends: &[u64], out: &mut [u64]) -> usize
     ensures few { result ≤ length out.old }
 {
     let mut before = 0;
+    // The place of the next value, and at last the answer.
     let mut count = 0;
     for (first, end) in firsts.iter().zip(ends) {
         let full = count + run_len(before, *end).min(out.len() - count);

@@ -1,13 +1,15 @@
 -- Digits of a number from a place on, and presence words from a row on.
-use Rattle.std.proofs.Common.{◌≡◌, ℕ, zero, suc, ◌+◌, ◌-◌, ◌*◌, ◌/◌, ◌%◌, ◌^◌, ◌<◌, ◌≤◌, List, [], ◌∷◌, ◌++◌, map, length, get_or, take, drop, Some, None, sym, refl, ap, ◌∙◌, subst, lt_of_lt_of_le, mod-lt, mul_assoc, pow-suc, mul-suc, div-one, arith, lit<, length-append, pow_pos, pow_mono, pow-add}
+use Rattle.std.proofs.Common.{◌≡◌, ℕ, zero, suc, ◌+◌, ◌-◌, ◌*◌, ◌/◌, ◌%◌, ◌^◌, ◌<◌, ◌≤◌, List, [], ◌∷◌, ◌++◌, length, get_or, take, drop, sym, ap, ◌∙◌, subst, mod-lt, mul_assoc, pow-suc, div-one, arith, lit<, length-append, pow_pos, pow-add}
 use native.Mathlib.Nat.{mod-one, zero-mod, zero-div, div-div-eq-div-mul, mul-add-mod_self_right, mul-add-div_right, one-le-pow, pow-zero, pow-succ'}
 use lib.Arith.{digits_div, digits_mod, mod-mul}
 use Rattle.std.proofs.lemmas.Nat.{shr_below}
-use Rattle.std.proofs.lemmas.List.{drop_more, length-map, map-append}
+use Rattle.std.proofs.lemmas.List.{drop_more, drop-map, map-append, take-map}
 use Rattle.packing.specs.Packing.{joined, digits, Below}
 use Rattle.packing.proofs.Below.{below-drop, below-get_or}
-use Rattle.packing.proofs.Digits.{joined-++, joined-digits, joined-lt}
+use Rattle.packing.proofs.Digits.{joined-++, bits-lt}
+use Rattle.packing.proofs.Packed.{pow-mul}
 use Rattle.column.specs.Columns.{Row, bit_of, bits, presence, words_for}
+use Rattle.column.proofs.RowLaws.{length-bits, below-bits}
 
 -- ---- any base
 
@@ -32,54 +34,24 @@ joined-take b (suc n) (x ∷ xs) p h =
     ∙ sym (mod-mul X (one-le-pow n b p) p)
     ∙ ap (λ z. X % z) (sym (pow-suc b n))
 
-pub map-take : {A : Type 0} (f : A → ℕ) (n : ℕ) (xs : List A) → map f (take n xs) ≡ take n (map f xs)
-map-take f zero xs = refl
-map-take f (suc n) [] = refl
-map-take f (suc n) (x ∷ xs) = ap (λ z. f x ∷ z) (map-take f n xs)
-
-pub map-drop : {A : Type 0} (f : A → ℕ) (n : ℕ) (xs : List A) → map f (drop n xs) ≡ drop n (map f xs)
-map-drop f zero xs = refl
-map-drop f (suc n) [] = refl
-map-drop f (suc n) (x ∷ xs) = map-drop f n xs
-
 -- ---- presence bits
-
-below-bits : (rs : List Row) → Below 2 (bits rs)
-below-bits [] = tt
-below-bits (None ∷ rs) = (lit< tt, below-bits rs)
-below-bits (Some w ∷ rs) = (lit< tt, below-bits rs)
 
 -- the bits of 64 rows
 pub block-word : (rs : List Row) (f : ℕ) → joined 2 (bits (take 64 (drop f rs))) ≡ joined 2 (bits rs) / 2 ^ f % 2 ^ 64
 block-word rs f =
-    ap (joined 2) (map-take bit_of 64 (drop f rs) ∙ ap (take 64) (map-drop bit_of f rs))
+    ap (joined 2) (sym (take-map bit_of 64 (drop f rs)) ∙ ap (take 64) (sym (drop-map bit_of f rs)))
     ∙ joined-take 2 64 (drop f (bits rs)) (lit< tt) (below-drop 2 f (bits rs) (below-bits rs))
     ∙ ap (λ z. z % 2 ^ 64) (joined-drop 2 f (bits rs) (below-bits rs))
-
-pow-words : (m : ℕ) → (2 ^ 64) ^ m ≡ 2 ^ (64 * m)
-pow-words zero = refl
-pow-words (suc m) = pow-suc (2 ^ 64) m ∙ ap (λ z. z * 2 ^ 64) (pow-words m) ∙ sym (ap (λ z. 2 ^ z) (mul-suc 64 m) ∙ pow-add 2 (64 * m) 64)
-
--- presence words join to the number of the bits
-pub presence-joined : (rs : List Row) → joined (2 ^ 64) (presence rs) ≡ joined 2 (bits rs)
-presence-joined rs =
-    let n = length (bits rs) in
-    let m = words_for (length rs) in
-    let l : n ≡ length rs = length-map rs bit_of in
-    let a : joined 2 (bits rs) < 2 ^ n = joined-lt 2 (bits rs) (below-bits rs) in
-    let e : n ≤ 64 * m = omega arith in
-    let b : 2 ^ n ≤ 2 ^ (64 * m) = pow_mono e in
-    joined-digits (2 ^ 64) m (joined 2 (bits rs)) (pow_pos 64) (subst (λ (z : ℕ). joined 2 (bits rs) < z) (sym (pow-words m)) (lt_of_lt_of_le a b))
 
 -- 64 rows are one word
 pub presence-more : (blk rest : List Row) → length blk ≡ 64 → presence (blk ++ rest) ≡ joined 2 (bits blk) ∷ presence rest
 presence-more blk rest h =
     let l = length-append blk rest in
-    let lb : length (bits blk) ≡ 64 = length-map blk bit_of ∙ h in
+    let lb : length (bits blk) ≡ 64 = length-bits blk ∙ h in
     let n : words_for (length (blk ++ rest)) ≡ suc (words_for (length rest)) = omega arith in
     let J = joined 2 (bits rest) in
     let w = joined 2 (bits blk) in
-    let s : w < 2 ^ 64 = subst (λ (z : ℕ). w < 2 ^ z) lb (joined-lt 2 (bits blk) (below-bits blk)) in
+    let s : w < 2 ^ 64 = bits-lt 64 (bits blk) lb (below-bits blk) in
     let x : joined 2 (bits (blk ++ rest)) ≡ J * 2 ^ 64 + w = ap (joined 2) (map-append bit_of blk rest) ∙ joined-++ 2 (bits blk) (bits rest) ∙ ap (λ z. J * 2 ^ z + w) lb in
     let q : (J * 2 ^ 64 + w) % 2 ^ 64 ≡ w = digits_mod J s in
     let r : (J * 2 ^ 64 + w) / 2 ^ 64 ≡ J = digits_div J s in
@@ -121,7 +93,7 @@ from-word ws f h =
     ap (λ z. joined (2 ^ 64) ws / 2 ^ z) s
     ∙ ap (λ z. joined (2 ^ 64) ws / z) (pow-add 2 (64 * a) b)
     ∙ sym (div-div-eq-div-mul (joined (2 ^ 64) ws) (2 ^ (64 * a)) (2 ^ b))
-    ∙ ap (λ z. joined (2 ^ 64) ws / z / 2 ^ b) (sym (pow-words a))
+    ∙ ap (λ z. joined (2 ^ 64) ws / z / 2 ^ b) (pow-mul 2 64 a)
     ∙ ap (λ z. z / 2 ^ b) (sym (joined-drop (2 ^ 64) a ws h))
 
 module _ (ws : List ℕ) (f : ℕ) (s : (i : ℕ) → get_or ws i 0 < 2 ^ 64) where

@@ -1,18 +1,19 @@
 -- One stratum more: what is written and what is left to draw.
 use Rattle.std.proofs.Common.{◌≡◌, ℕ, zero, suc, ◌+◌, ◌-◌, ◌*◌, ◌/◌, ◌%◌, ◌^◌, ◌<◌, ◌≤◌, false, leb, List, [], ◌∷◌, ◌++◌, length, get_or, take, drop, set, sym, ap, ◌∙◌, subst, add-one, arith, length-drop, length-take}
 use borrow.Rule.Slice.PartMut.{put_mid}
-use Rattle.std.proofs.lemmas.List.{append-nil, drop_more, drop_all, length-map, map-append}
+use Rattle.std.proofs.lemmas.List.{append-nil, drop_more, drop_all, drop-map, length-map, map-append, take-map}
 use Rattle.std.proofs.lemmas.Bool.{lt-leb}
 use Rattle.packing.specs.Packing.{joined, written, written_at}
 use Rattle.packing.proofs.Written.{written_at-none, written_at-one, written_at-++}
 use Rattle.column.specs.declared.views.View.{View}
-use Rattle.column.specs.Columns.{Row, Offer, CleanView, cell_of, cells, bits, presence, offer_seen, seen}
-use Rattle.column.proofs.RowLaws.{length-offered}
+use Rattle.column.specs.Columns.{Row, CleanView, cell_of, cells, bits, presence, seen}
+use Rattle.column.proofs.ViewLaws.{view-words}
+use Rattle.column.proofs.WordLaws.{presence-joined}
 use Rattle.sample.specs.Draws.{Bounds, Source, Within}
 use Rattle.sample.specs.Samples.{sample_count, strata, seed, bounds_of, drawn, sample_by, sample_rows}
 use Rattle.sample.specs.Laws.{stratum_at}
 use Rattle.sample.proofs.StrataLaws.{wide, ends}
-use Rattle.sample.proofs.Joins.{map-take, map-drop, presence-more, presence-joined, block-word}
+use Rattle.sample.proofs.Joins.{presence-more, block-word}
 
 -- the bounds asked for the first i strata
 abbrev pub asked : List (ℕ × ℕ) → ℕ → List Bounds
@@ -51,7 +52,7 @@ cells-more d ps i rs vc out out2 goal f h v e r room o now =
     let after = rest d ps (i + 1) rs in
     let whole : cells (rest d ps i rs) ≡ cells blk ++ cells after =
     ap cells (rest_more d ps i rs h ∙ ap (λ z. take 64 (drop z rs) ++ after) (sym e)) ∙ map-append cell_of blk after in
-    let part : take 64 (drop f vc) ≡ cells blk = ap (λ z. take 64 (drop f z)) v ∙ sym (map-take cell_of 64 (drop f rs) ∙ ap (take 64) (map-drop cell_of f rs)) in
+    let part : take 64 (drop f vc) ≡ cells blk = ap (λ z. take 64 (drop f z)) v ∙ ap (take 64) (drop-map cell_of f rs) ∙ take-map cell_of 64 (drop f rs) in
     let len : length (cells blk) ≡ 64 = length-map blk cell_of ∙ block-length rs f r in
     let at : 64 * (i + 1) ≡ 64 * i + length (cells blk) = omega arith in
     let le : 64 * i ≤ length out = omega arith in
@@ -115,15 +116,6 @@ pub after_more : {S : Type 0} (after : ℕ → List Bounds → S) (ps : List (�
 after_more after ps i p s e m = m ∙ ap (λ q. after seed (bounds_of q ∷ asked ps i)) e ∙ ap (λ z. after seed (asked ps z)) (sym (add-one i))
 
 -- ---- a view of a cleaned column
-
-pub view-rows : (v : View) → length v.cells.now ≡ length (seen v).rows
-view-rows v = sym (length-offered (offer_seen v))
-
-pub view-cells : (v : View) → CleanView v → v.cells.now ≡ cells (seen v).rows
-view-cells v h = ap (λ (o : Offer). o.cells) h.stored
-
-pub view-words : (v : View) → CleanView v → v.words.now ≡ presence (seen v).rows
-view-words v h = ap (λ (o : Offer). o.words) h.stored
 
 -- a word for each 64 rows
 pub words-room : (v : View) → (f : ℕ) → f + 64 ≤ length v.cells.now → f + 64 ≤ 64 * length v.words.now

@@ -12,7 +12,8 @@ use column::cleaned::Cleaned;
 const SAMPLE_SEED: u64 = 1234567890;
 
 // Writes the sample of a cleaned column, its cells and its presence words, and answers its rows; `None`, and nothing is written, where
-// the column is its own sample.
+// the column is its own sample. Cells and words are two parameters: in a clause, what a struct of two `&mut` holds after the call is
+// named by place alone.
 pub fn sample<D: Draws + Drop>(
     array: Cleaned<'_>,
     cells: &mut [u64],

@@ -1,5 +1,5 @@
 -- Children of a scheme: what the narrowest kind holds, and columns without a blank.
-use Rattle.std.proofs.Common.{◌≡◌, ℕ, ◌^◌, ◌<◌, ◌≤◌, Bool, true, false, ltb, List, [], ◌∷◌, length, take, Some, None, sym, refl, ap, ◌∙◌, subst, suc-le-suc, zero-le, arith}
+use Rattle.std.proofs.Common.{◌≡◌, ℕ, ◌^◌, ◌<◌, ◌≤◌, Bool, true, false, ltb, List, [], ◌∷◌, length, take, Some, None, sym, refl, ap, ◌∙◌, subst, zero-le, arith}
 use Rattle.std.specs.List.{AllByRecursion}
 use Rattle.std.proofs.lemmas.List.{length-map, length-take-le, take_at}
 use Rattle.std.proofs.lemmas.Bool.{ltb-true, le-leb}
@@ -32,11 +32,6 @@ pub is-clean : (c : Column) → c.kind ≤ 7 → length c.rows ≤ 131072 → Al
 is-clean c k l a = (le-leb c.kind 7 k, le-leb (length c.rows) 131072 l, stray-each c.kind 0 c.rows a)
 
 -- ---- rows and their values
-
-pub length-values : (rs : List Row) → length (values_of rs) ≤ length rs
-length-values [] = zero-le
-length-values (None ∷ rs) = let h = length-values rs in omega arith
-length-values (Some w ∷ rs) = suc-le-suc (length-values rs)
 
 -- rows from their presence bits and values
 pub filled-back : (rs : List Row) → filled (bits rs) (values_of rs) ≡ rs

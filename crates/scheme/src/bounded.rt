@@ -4,6 +4,7 @@ ghost use Rattle.std.specs.Prelude.{◌≡◌, ◌<◌, ◌≤◌, [], ◌∷◌
 use std::marker::Model;
 
 // At most `N` items, which lie in the value itself; a filler stands in each free place.
+// Not the library's `ArrayVec`: that one is not `Copy`, which contexts are, and wants items with a `Default`.
 #[derive(Clone, Copy)]
 pub struct Bounded<T, const N: usize> {
     places: [T; N],

@@ -2,6 +2,7 @@
 ghost use Rattle.std.specs.Prelude.{◌≡◌, ℕ};
 ghost use Rattle.scheme.specs.Scores.{beats_score, finite_ratio, marked, ratio_of, RatioLaws, score_of, score_valid, valid};
 
+// The ported crate's own enum, its names and shape.
 #[derive(Clone, Copy)]
 pub enum CompressionEstimate {
     // the answer

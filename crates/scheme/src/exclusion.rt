@@ -11,6 +11,7 @@ pub enum ChildSelection<'a> {
 }
 
 // The two rules are types apart, as in the ported crate, so that neither can stand in the other's table.
+
 // Push rule: of the scheme that declares it, no descendant below these children may be `excluded`.
 #[derive(Clone, Copy)]
 pub struct DescendantExclusion<'a> {

@@ -22,7 +22,18 @@ pub struct ChildShape {
     pub rows: usize,
 }
 
+impl ChildShape {
+    // Stands where a scheme has no such child.
+    pub fn none(kind: Kind) -> ChildShape
+        ensures kind { result.kind ≡ kind }
+        ensures rows { result.rows ≡ 0 }
+    {
+        ChildShape { kind, rows: 0 }
+    }
+}
+
 // The parts of a column but for the payload's bytes; the children's cells and presence words lie in lent places.
+// Both children stand in every shape, and `num_children` says which count: an `Option` would say that a second time.
 #[derive(Clone, Copy)]
 pub struct Shape {
     pub payload: usize,
@@ -39,7 +50,7 @@ pub struct RowRefused {
 }
 
 // Every answer is that of the scheme's meaning, and every meaning keeps the laws. No function has a default body: it would owe its clause for
-// every meaning.
+// every meaning. What is asked about `takes` and about lent memory relates two parameters each; it is no fact of one value.
 pub trait Scheme {
     ghost meaning: { Self → Meaning };
 

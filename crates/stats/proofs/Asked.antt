@@ -1,20 +1,14 @@
 -- What is asked of statistics, from what the code keeps.
-use Rattle.std.proofs.Common.{◌≡◌, ℕ, zero, suc, ◌+◌, ◌*◌, ◌/◌, ◌^◌, ◌<◌, ◌≤◌, true, false, ltb, List, [], ◌∷◌, length, take, drop, Some, None, Option, sym, refl, ap, ◌∙◌, pow-suc, add-one, arith, pow_pos, w64, of_z}
+use Rattle.std.proofs.Common.{◌≡◌, ℕ, zero, suc, ◌+◌, ◌*◌, ◌/◌, ◌^◌, ◌<◌, ◌≤◌, true, false, ltb, List, [], ◌∷◌, length, take, drop, Some, None, Option, sym, refl, ap, ◌∙◌, pow-suc, add-one, arith, pow_pos}
 use Rattle.std.specs.List.{zip}
 use Rattle.std.proofs.lemmas.List.{length-take-le, length-drop}
+use Rattle.std.proofs.lemmas.Slice.Zip.{length-zip}
 use Rattle.std.proofs.lemmas.Option.{none-some}
 use Rattle.std.proofs.lemmas.Bool.{lt-ltb, le-ltb}
 use Rattle.stats.specs.declared.integer.DistinctInfo.{DistinctInfo}
-use Rattle.stats.specs.declared.integer.ErasedStats.{ErasedStats}
-use Rattle.stats.specs.declared.integer.ErasedStats.TheVariants.{Unsigned, Signed}
 use Rattle.stats.specs.Stats.{firsts, seconds, count_in, values_in, counts_in, halvings, ilog2}
-use Rattle.stats.specs.Seen.{number_in, part_seen, same_cell, distinct_seen, number_erased, part_cells, erased_cells}
+use Rattle.stats.specs.Seen.{number_in, part_seen}
 use Rattle.stats.specs.Laws.{Log2}
-
-length-zipped : (xs ys : List ℕ) → length xs ≡ length ys → length (zip xs ys) ≡ length xs
-length-zipped [] ys e = refl
-length-zipped (x ∷ xs) [] e = absurd (omega (arith, e))
-length-zipped (x ∷ xs) (y ∷ ys) e = ap suc (length-zipped xs ys (omega (arith, e)))
 
 firsts-zipped : (xs ys : List ℕ) → length xs ≡ length ys → firsts (zip xs ys) ≡ xs
 firsts-zipped [] ys e = refl
@@ -37,37 +31,21 @@ back d n t h = length-take-le d (drop n t) (omega (arith, length-drop n t))
 even : (d n : ℕ) (t : List ℕ) → n + d ≤ length t → length (take d t) ≡ length (take d (drop n t))
 even d n t h = front d n t h ∙ sym (back d n t h)
 
-count-part : {T : Type 0} (cell : T → ℕ) (d : DistinctInfo ℕ) (o : Option (DistinctInfo T)) (n : ℕ) (t : List ℕ) → part_cells cell o ≡ Some d → n + number_in o ≤ length t → ◌≡◌ {A = Option ℕ} (Some d.distinct_count) (count_in (part_seen cell o n t))
-count-part cell d None n t e h = absurd (none-some d e)
-count-part cell d (Some i) n t e h =
+-- the number of pairs, where there is a distinct part
+pub count_of : (d : DistinctInfo) (o : Option DistinctInfo) (n : ℕ) (t : List ℕ) → o ≡ Some d → n + number_in o ≤ length t → ◌≡◌ {A = Option ℕ} (Some d.distinct_count) (count_in (part_seen o t (drop n t)))
+count_of d None n t e h = absurd (none-some d e)
+count_of d (Some i) n t e h =
     let k = i.distinct_count in
     let same : d.distinct_count ≡ k = ap (λ q. number_in q) (sym e) in
-    ap Some (same ∙ sym (length-zipped (take k t) (take k (drop n t)) (even k n t h) ∙ front k n t h))
+    ap Some (omega (arith, same, length-zip (take k t) (take k (drop n t)), front k n t h, back k n t h))
 
-same-part : (o : Option (DistinctInfo ℕ)) → part_cells same_cell o ≡ o
-same-part None = refl
-same-part (Some d) = refl
+pub values_of : (o : Option DistinctInfo) (n : ℕ) (t : List ℕ) → n + number_in o ≤ length t → take (number_in o) t ≡ values_in (part_seen o t (drop n t))
+values_of None n t h = refl
+values_of (Some d) n t h = sym (firsts-zipped (take d.distinct_count t) (take d.distinct_count (drop n t)) (even d.distinct_count n t h))
 
--- the number of pairs, where there is a distinct part
-pub count_of : (d : DistinctInfo ℕ) (e : ErasedStats) (n : ℕ) (t : List ℕ) → (erased_cells e).distinct ≡ Some d → n + number_erased e ≤ length t → ◌≡◌ {A = Option ℕ} (Some d.distinct_count) (count_in (distinct_seen e n t))
-count_of d (Unsigned s) n t e h = count-part same_cell d s.distinct n t (same-part s.distinct ∙ e) h
-count_of d (Signed s) n t e h = count-part (of_z w64) d s.distinct n t e h
-
-values-part : {T : Type 0} (cell : T → ℕ) (o : Option (DistinctInfo T)) (n : ℕ) (t : List ℕ) → n + number_in o ≤ length t → take (number_in o) t ≡ values_in (part_seen cell o n t)
-values-part cell None n t h = refl
-values-part cell (Some d) n t h = sym (firsts-zipped (take d.distinct_count t) (take d.distinct_count (drop n t)) (even d.distinct_count n t h))
-
-counts-part : {T : Type 0} (cell : T → ℕ) (o : Option (DistinctInfo T)) (n : ℕ) (t : List ℕ) → n + number_in o ≤ length t → take (number_in o) (drop n t) ≡ counts_in (part_seen cell o n t)
-counts-part cell None n t h = refl
-counts-part cell (Some d) n t h = sym (seconds-zipped (take d.distinct_count t) (take d.distinct_count (drop n t)) (even d.distinct_count n t h))
-
-pub values_of : (n : ℕ) (e : ErasedStats) (t : List ℕ) → n + number_erased e ≤ length t → take (number_erased e) t ≡ values_in (distinct_seen e n t)
-values_of n (Unsigned s) t h = values-part same_cell s.distinct n t h
-values_of n (Signed s) t h = values-part (of_z w64) s.distinct n t h
-
-pub counts_of : (n : ℕ) (e : ErasedStats) (t : List ℕ) → n + number_erased e ≤ length t → take (number_erased e) (drop n t) ≡ counts_in (distinct_seen e n t)
-counts_of n (Unsigned s) t h = counts-part same_cell s.distinct n t h
-counts_of n (Signed s) t h = counts-part (of_z w64) s.distinct n t h
+pub counts_of : (o : Option DistinctInfo) (n : ℕ) (t : List ℕ) → n + number_in o ≤ length t → take (number_in o) (drop n t) ≡ counts_in (part_seen o t (drop n t))
+counts_of None n t h = refl
+counts_of (Some d) n t h = sym (seconds-zipped (take d.distinct_count t) (take d.distinct_count (drop n t)) (even d.distinct_count n t h))
 
 -- ---- logarithms
 

@@ -2,8 +2,15 @@
 use Rattle.std.proofs.Common.{◌≡◌, ℕ, ◌+◌, ◌<◌, ◌≤◌, Bool, true, false, cond, eqb, List, [], ◌∷◌, ◌++◌, length, get_or, take, slice_get, Some, sym, refl, ap, ◌∙◌, arith, eq-eqb}
 use Rattle.std.proofs.lemmas.Option.{none-some, same_Some}
 use Rattle.std.proofs.lemmas.List.{take_more, length-take-le}
-use Rattle.stats.specs.Blocks.{last_or}
+use Rattle.stats.specs.declared.runs.LoopState.{LoopState}
+use Rattle.stats.specs.Blocks.{last_or, state_after}
 use Rattle.stats.specs.Stats.{changes, runs}
+
+pub same-state : (p q m n : ℕ) → p ≡ q → m ≡ n → ◌≡◌ {A = LoopState} (record { prev = p; runs = m }) (record { prev = q; runs = n })
+same-state p q m n e f = rw (e, f)
+
+pub state-none : (s : LoopState) → s ≡ state_after s []
+state-none s = same-state s.prev s.prev s.runs (s.runs + 0) refl (omega arith)
 
 pub changes-++ : (p : ℕ) (xs ys : List ℕ) → changes p (xs ++ ys) ≡ changes p xs + changes (last_or p xs) ys
 changes-++ p [] ys = omega arith

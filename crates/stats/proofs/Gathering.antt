@@ -1,6 +1,6 @@
--- Values gathered one after another, and cells turned into keys where they stand.
-use Rattle.std.proofs.Common.{◌≡◌, ℕ, ◌+◌, ◌-◌, ◌<◌, ◌≤◌, true, false, ◌⊎◌, List, ◌++◌, map, length, get_or, take, drop, set, sym, refl, ap, ◌∙◌, arith}
-use Rattle.std.proofs.lemmas.List.{take_more_set, drop_more, drop_all, drop-drop, drop-set-lt, take_all, append_assoc, append-nil}
+-- Values gathered one after another.
+use Rattle.std.proofs.Common.{◌≡◌, ℕ, ◌+◌, ◌-◌, ◌<◌, ◌≤◌, true, false, ◌⊎◌, List, ◌++◌, length, get_or, take, drop, set, sym, refl, ap, ◌∙◌, arith}
+use Rattle.std.proofs.lemmas.List.{take_more_set, drop_more, drop_all, drop-drop, append_assoc, append-nil}
 use Rattle.stats.specs.Blocks.{bit, kept_from, shown}
 use Rattle.column.proofs.NextLaws.{Next, next-length}
 use Rattle.stats.proofs.RowsLink.{block-more, shown-none}
@@ -50,12 +50,3 @@ got-more {words} {cells} {out0} {out} {at} {ws} {cs} k {word} {block} {ws2} {cs2
 pub got-all : {words cells out0 out : List ℕ} {at : ℕ} {ws cs : List ℕ} → Got words cells out0 out at ws cs → (length cs ≡ 0) ⊎ (length ws ≡ 0) → take at out ≡ shown words cells
 got-all {words} {cells} {out0} {out} {at} {ws} {cs} k o =
     sym (append-nil (take at out)) ∙ ap (λ z. take at out ++ z) (sym (shown-none ws cs o)) ∙ k.front
-
--- one more cell turned in place
-pub turn_more : (f : ℕ → ℕ) (xs ys : List ℕ) (i y : ℕ) (goal : List ℕ) → i < length xs → y ≡ f (get_or xs i 0) → ys ≡ set xs i y → take i xs ++ map f (drop i xs) ≡ goal → take (i + 1) ys ++ map f (drop (i + 1) ys) ≡ goal
-turn_more f xs ys i y goal h e s k =
-    let k1 = rw (drop_more xs i 0 h, ← e) at k in
-    rw (s, take_more_set xs i y h, drop-set-lt (i + 1) xs i y (omega arith), append_assoc) k1
-
-pub turn-all : (f : ℕ → ℕ) (xs : List ℕ) (i : ℕ) (goal : List ℕ) → length xs ≤ i → take i xs ++ map f (drop i xs) ≡ goal → xs ≡ goal
-turn-all f xs i goal h k = sym (append-nil xs) ∙ rw (take_all i xs h, drop_all i xs h) at k

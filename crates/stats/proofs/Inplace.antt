@@ -1,87 +1,57 @@
--- The runs of the first n words, put where they stood, with their lengths in the next n.
-use Rattle.std.proofs.Common.{◌≡◌, ℕ, zero, suc, ◌+◌, ◌<◌, ◌≤◌, true, false, eqb, List, [], ◌∷◌, ◌++◌, length, get_or, take, drop, set, sym, refl, ap, ◌∙◌, arith, eq-eqb, ne_eqb}
-use Rattle.std.proofs.lemmas.List.{take_more_set, take-set-le, drop_more, drop_all, drop-set-lt, drop-set-add, get_or-set_other, get_or-take, length-set, length-drop, length-take-le, append_assoc}
+-- The runs of a list s in two lists: each run's value in v, where s stood, and its length in c.
+use Rattle.std.proofs.Common.{◌≡◌, ℕ, ◌+◌, ◌<◌, ◌≤◌, true, false, eqb, List, [], ◌∷◌, ◌++◌, length, get_or, take, drop, set, refl, sym, ◌∙◌, arith, eq-eqb, ne_eqb}
+use Rattle.std.proofs.lemmas.List.{take_more_set, drop_more, drop_all, get_or-set_other, length-set, append_assoc}
 use Rattle.stats.specs.Table.{heads_from, heads, lens_from, lens}
 
-pub record Inside (s t : List ℕ) (n i j cur len : ℕ) : Type 0 where
-  pub vals : take j t ++ heads_from cur (drop i s) ≡ heads s
-  pub counts : take j (drop n t) ++ lens_from cur len (drop i s) ≡ lens s
-  pub rest : (k : ℕ) → i ≤ k → k < n → get_or t k 0 ≡ get_or s k 0
-  pub size : length s ≡ n
-  pub room : n + n ≤ length t
+pub record Inside (s v c : List ℕ) (i j cur len : ℕ) : Type 0 where
+  pub vals : take j v ++ heads_from cur (drop i s) ≡ heads s
+  pub lengths : take j c ++ lens_from cur len (drop i s) ≡ lens s
+  pub rest : (k : ℕ) → i ≤ k → k < length s → get_or v k 0 ≡ get_or s k 0
+  pub size : length v ≡ length s
+  pub even : length c ≡ length s
   pub behind : j < i
   pub few : len ≤ i
 
-abbrev put : List ℕ → ℕ → ℕ → ℕ → ℕ → List ℕ
-put t n j cur len = set (set t j cur) (n + j) len
+pub in_start : (s c : List ℕ) → 0 < length s → length c ≡ length s → Inside s s c 1 0 (get_or s 0 0) 1
+in_start [] c h e = absurd (omega (arith, h))
+in_start (x ∷ s) c h e = record { vals = refl; lengths = refl; rest = λ k l m. refl; size = refl; even = e; behind = omega arith; few = omega arith }
 
-put-vals : (t : List ℕ) (n j cur len : ℕ) → j < n → n + n ≤ length t → take (j + 1) (put t n j cur len) ≡ take j t ++ (cur ∷ [])
-put-vals t n j cur len h r = take-set-le (j + 1) (set t j cur) (n + j) len (omega arith) ∙ take_more_set t j cur (omega arith)
-
-put-counts : (t : List ℕ) (n j cur len : ℕ) → j < n → n + n ≤ length t → take (j + 1) (drop n (put t n j cur len)) ≡ take j (drop n t) ++ (len ∷ [])
-put-counts t n j cur len h r =
-    let l : j < length (drop n (set t j cur)) = omega (arith, length-drop n (set t j cur), length-set t j cur) in
-    ap (take (j + 1)) (drop-set-add n (set t j cur) j len) ∙ take_more_set (drop n (set t j cur)) j len l ∙ ap (λ z. take j z ++ (len ∷ [])) (drop-set-lt n t j cur h)
-
-pub in_start : (t : List ℕ) (n : ℕ) → 0 < n → n + n ≤ length t → Inside (take n t) t n 1 0 (get_or t 0 0) 1
-in_start [] n h r = absurd (omega (arith, h, r))
-in_start (x ∷ t) n h r = go n h r
-  where
-    go : (n : ℕ) → 0 < n → n + n ≤ length (x ∷ t) → Inside (take n (x ∷ t)) (x ∷ t) n 1 0 x 1
-    go zero h r = absurd (omega (arith, h))
-    go (suc n) h r =
-        record {
-          vals = refl;
-          counts = refl;
-          rest = λ k l m. sym (get_or-take (suc n) (x ∷ t) k 0 m);
-          size = length-take-le (suc n) (x ∷ t) (omega (arith, r));
-          room = r;
-          behind = omega arith;
-          few = omega arith;
-        }
-
-pub in-same : {s t : List ℕ} {n i j cur len : ℕ} → Inside s t n i j cur len → i < n → (t2 : List ℕ) (j2 cur2 len2 : ℕ) → t2 ≡ t → j2 ≡ j → cur2 ≡ cur → len2 ≡ len + 1 → get_or t i 0 ≡ cur → Inside s t2 n (i + 1) j2 cur2 len2
-in-same {s} {t} {n} {i} {j} {cur} {len} w h t2 j2 cur2 len2 e1 e2 e3 e4 e =
+pub in-same : {s v c : List ℕ} {i j cur len : ℕ} → Inside s v c i j cur len → i < length s → (v2 c2 : List ℕ) (j2 cur2 len2 : ℕ) → v2 ≡ v → c2 ≡ c → j2 ≡ j → cur2 ≡ cur → len2 ≡ len + 1 → get_or v i 0 ≡ cur → Inside s v2 c2 (i + 1) j2 cur2 len2
+in-same {s} {v} {c} {i} {j} {cur} {len} w h v2 c2 j2 cur2 len2 e1 e2 e3 e4 e5 e =
     let g : get_or s i 0 ≡ cur = sym (w.rest i (omega arith) h) ∙ e in
     let b : eqb (get_or s i 0) cur ≡ true = eq-eqb _ _ g in
-    let hs : i < length s = omega (arith, w.size) in
-    rw (e1, e2, e3, e4)
+    rw (e1, e2, e3, e4, e5)
     (record {
-      vals = rw (drop_more s i 0 hs, b) at w.vals;
-      counts = rw (drop_more s i 0 hs, b) at w.counts;
+      vals = rw (drop_more s i 0 h, b) at w.vals;
+      lengths = rw (drop_more s i 0 h, b) at w.lengths;
       rest = λ k l m. w.rest k (omega arith) m;
       size = w.size;
-      room = w.room;
+      even = w.even;
       behind = omega (arith, w.behind);
       few = omega (arith, w.few);
     })
 
-pub in-new : {s t : List ℕ} {n i j cur len : ℕ} → Inside s t n i j cur len → i < n → (t2 : List ℕ) (j2 cur2 len2 : ℕ) → t2 ≡ set (set t j cur) (n + j) len → j2 ≡ j + 1 → cur2 ≡ get_or t i 0 → len2 ≡ 1 → (get_or t i 0 ≡ cur → ⊥) → Inside s t2 n (i + 1) j2 cur2 len2
-in-new {s} {t} {n} {i} {j} {cur} {len} w h t2 j2 cur2 len2 e1 e2 e3 e4 e =
-    let g : get_or t i 0 ≡ get_or s i 0 = w.rest i (omega arith) h in
+pub in-new : {s v c : List ℕ} {i j cur len : ℕ} → Inside s v c i j cur len → i < length s → (v2 c2 : List ℕ) (j2 cur2 len2 : ℕ) → v2 ≡ set v j cur → c2 ≡ set c j len → j2 ≡ j + 1 → cur2 ≡ get_or v i 0 → len2 ≡ 1 → (get_or v i 0 ≡ cur → ⊥) → Inside s v2 c2 (i + 1) j2 cur2 len2
+in-new {s} {v} {c} {i} {j} {cur} {len} w h v2 c2 j2 cur2 len2 e1 e2 e3 e4 e5 e =
+    let g : get_or v i 0 ≡ get_or s i 0 = w.rest i (omega arith) h in
     let b : eqb (get_or s i 0) cur ≡ false = ne_eqb _ _ (λ q. e (g ∙ q)) in
-    let hs : i < length s = omega (arith, w.size) in
-    let jn : j < n = omega (arith, w.behind) in
-    let v = rw (drop_more s i 0 hs, b) at w.vals in
-    let c = rw (drop_more s i 0 hs, b) at w.counts in
-    rw (e1, e2, e3 ∙ g, e4)
+    let jv : j < length v = omega (arith, w.behind, w.size) in
+    let jc : j < length c = omega (arith, w.behind, w.even) in
+    let hs = rw (drop_more s i 0 h, b) at w.vals in
+    let ls = rw (drop_more s i 0 h, b) at w.lengths in
+    rw (e1, e2, e3, e4 ∙ g, e5)
     (record {
-      vals = rw (put-vals t n j cur len jn w.room, append_assoc) v;
-      counts = rw (put-counts t n j cur len jn w.room, append_assoc) c;
-      rest = λ k l m. get_or-set_other (set t j cur) (n + j) k len 0 (λ q. omega (arith, q, m)) ∙ get_or-set_other t j k cur 0 (λ q. omega (arith, q, l, w.behind)) ∙ w.rest k (omega arith) m;
-      size = w.size;
-      room = omega (arith, w.room, length-set (set t j cur) (n + j) len, length-set t j cur);
+      vals = rw (take_more_set v j cur jv, append_assoc) hs;
+      lengths = rw (take_more_set c j len jc, append_assoc) ls;
+      rest = λ k l m. get_or-set_other v j k cur 0 (λ q. omega (arith, q, l, w.behind)) ∙ w.rest k (omega arith) m;
+      size = omega (arith, w.size, length-set v j cur);
+      even = omega (arith, w.even, length-set c j len);
       behind = omega (arith, w.behind);
       few = omega arith;
     })
 
-pub in_end : {s t : List ℕ} {n i j cur len : ℕ} → Inside s t n i j cur len → n ≤ i → j < n → (take (j + 1) (set (set t j cur) (n + j) len) ≡ heads s) × (take (j + 1) (drop n (set (set t j cur) (n + j) len)) ≡ lens s)
-in_end {s} {t} {n} {i} {j} {cur} {len} w h jn =
-    let l : length s ≤ i = omega (arith, w.size) in (
-      put-vals t n j cur len jn w.room ∙ rw (drop_all i s l) at w.vals,
-      put-counts t n j cur len jn w.room ∙ rw (drop_all i s l) at w.counts,
-    )
-
-pub put-beyond : (t t0 : List ℕ) (n j cur len : ℕ) → j < n → drop (n + n) t ≡ drop (n + n) t0 → drop (n + n) (set (set t j cur) (n + j) len) ≡ drop (n + n) t0
-put-beyond t t0 n j cur len h e =
-    drop-set-lt (n + n) (set t j cur) (n + j) len (omega arith) ∙ drop-set-lt (n + n) t j cur (omega arith) ∙ e
+pub in_end : {s v c : List ℕ} {i j cur len : ℕ} → Inside s v c i j cur len → length s ≤ i → j < length s → (take (j + 1) (set v j cur) ≡ heads s) × (take (j + 1) (set c j len) ≡ lens s)
+in_end {s} {v} {c} {i} {j} {cur} {len} w h jn = (
+  take_more_set v j cur (omega (arith, w.size)) ∙ rw (drop_all i s h) at w.vals,
+  take_more_set c j len (omega (arith, w.even)) ∙ rw (drop_all i s h) at w.lengths,
+)

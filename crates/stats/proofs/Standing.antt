@@ -1,10 +1,11 @@
 -- The table ascends strictly, has each value with its number of occurrences and nothing else; the commonest and the ends are what
 -- they are called.
-use Rattle.std.proofs.Common.{◌≡◌, ℕ, suc, ◌+◌, ◌^◌, ◌<◌, ◌≤◌, Bool, true, false, cond, ◌&&◌, eqb, ltb, leb, ◌⊎◌, List, [], ◌∷◌, length, Some, None, sym, refl, ap, ◌∙◌, subst, inl, inr, true≢false, zero-add, arith}
+use Rattle.std.proofs.Common.{◌≡◌, ℕ, suc, ◌+◌, ◌^◌, ◌<◌, ◌≤◌, Bool, true, false, cond, ◌&&◌, eqb, ltb, leb, ◌⊎◌, List, [], ◌∷◌, Some, None, sym, refl, ap, ◌∙◌, subst, inl, inr, true≢false, zero-add, arith}
 use Rattle.std.specs.List.{AllByRecursion}
 use Rattle.std.proofs.lemmas.Bool.{eqb-true, eqb-false, ltb-true, ltb-false, leb-true, leb-false, eq-eqb, ne_eqb, lt-ltb, cases_lt}
 use Rattle.column.specs.Kinds.{key, key_by, signed, least, greatest, in_kind}
 use Rattle.column.specs.Columns.{Row, Column, Clean, stray_by, stray_from, values_of, values}
+use Rattle.column.proofs.RowLaws.{length-values}
 use Rattle.stats.specs.Stats.{Stats, firsts, counted_by, counted, tally, commonest_after, commonest, distinct_of, distinct_part, least_of, greatest_of, stats}
 use Rattle.stats.specs.Laws.{occurs, EachAfter, Ascends, Tallied, Commonest, Ends, PartRight, Right}
 use Rattle.stats.proofs.Tops.{after-true, after-false}
@@ -161,7 +162,8 @@ counted-counts k v F (p ∷ ps) a m c = go (eqb v p.0) (ltb (key k v) (key k p.0
         tail (inr g) = g
 
 -- a value that occurs has what all have
-occurs-all : (P : ℕ → Type 0) (v : ℕ) (vs : List ℕ) → AllByRecursion P vs → 1 ≤ occurs v vs → P v
+-- a value that stands in the list has what all have
+pub occurs-all : (P : ℕ → Type 0) (v : ℕ) (vs : List ℕ) → AllByRecursion P vs → 1 ≤ occurs v vs → P v
 occurs-all P v [] a h = absurd (omega arith)
 occurs-all P v (w ∷ ws) a h = go (eqb v w) refl h (occurs-all P v ws a.1)
   where
@@ -359,11 +361,6 @@ part_right want k (r ∷ rs) [] a = info-right k [] a
 part_right true k (r ∷ rs) (v ∷ vs) a = info-right k (v ∷ vs) a
 part_right false k (r ∷ rs) (v ∷ vs) a = tt
 
-values-few : (rs : List Row) → length (values_of rs) ≤ length rs
-values-few [] = omega arith
-values-few (None ∷ rs) = omega (arith, values-few rs)
-values-few (Some w ∷ rs) = omega (arith, values-few rs)
-
 pub right_of : (want : Bool) (c : Column) (s : Stats) → s ≡ stats want c → Clean c → Right c s
 right_of want c s e cl =
     let vs = values c in
@@ -371,7 +368,7 @@ right_of want c s e cl =
     subst (Right c) (sym e)
     (record {
       count = refl;
-      rows = omega (arith, values-few c.rows);
+      rows = omega (arith, length-values c.rows);
       ends = ends-stand c.kind vs a;
       distinct = part_right want c.kind c.rows vs (all_map (Fits c.kind) Word (λ w f. f.word) vs a);
     })

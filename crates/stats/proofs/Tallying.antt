@@ -3,6 +3,7 @@ use Rattle.std.proofs.Common.{◌≡◌, ℕ, suc, ◌+◌, ◌^◌, ◌<◌, Bo
 use Rattle.std.specs.List.{AllByRecursion, zip}
 use Rattle.std.proofs.lemmas.Bool.{cases_order, lt-ltb, le-ltb, eq-eqb, ne_eqb}
 use Rattle.column.specs.Kinds.{key_by, key, signed}
+use Rattle.column.proofs.KindLaws.{key-word}
 use Rattle.stats.specs.Stats.{counted_by, counted, tally}
 use Rattle.stats.specs.Table.{insert, ascending, heads_from, heads, lens_from, lens}
 use Rattle.stats.proofs.Unique.{Up, up-ascending}
@@ -112,10 +113,6 @@ Word w = w < 2 ^ 64
 pub key_back : (s : Bool) (w : ℕ) → w < 2 ^ 64 → key_by s (key_by s w) ≡ w
 key_back true w h = omega arith
 key_back false w h = refl
-
-key-word : (s : Bool) (w : ℕ) → w < 2 ^ 64 → key_by s w < 2 ^ 64
-key-word true w h = omega arith
-key-word false w h = h
 
 abbrev turned : Bool → List (ℕ × ℕ) → List (ℕ × ℕ)
 turned s [] = []

@@ -1,6 +1,8 @@
 -- The values of a column by its presence words, and by blocks: a word for each 64 cells.
 use Rattle.std.specs.Prelude.{ℕ, ◌+◌, cond, List, [], ◌∷◌, length}
 use Rattle.column.specs.Columns.{rows_of, values_of, word_bits}
+use Rattle.stats.specs.declared.runs.LoopState.{LoopState}
+use Rattle.stats.specs.Stats.{changes}
 pub use Rattle.column.specs.Words.{bit}
 
 -- the values that the words leave of the cells, in row order
@@ -21,3 +23,7 @@ filled_from w j p (c ∷ cs) = cond (bit w j) c p ∷ filled_from w (j + 1) (con
 abbrev pub last_or : ℕ → List ℕ → ℕ
 last_or p [] = p
 last_or p (x ∷ xs) = last_or x xs
+
+-- the count of runs after these values too
+abbrev pub state_after : LoopState → List ℕ → LoopState
+state_after s vs = record { prev = last_or s.prev vs; runs = s.runs + changes s.prev vs }

@@ -1,11 +1,11 @@
-// The distinct values with their counts, in one lent table: sorted by keys, then split into runs where they stand.
-ghost use Rattle.std.specs.Prelude.{◌≡◌, ◌+◌, ◌<◌, ◌≤◌, not, ◌&&◌, ◌||◌, List, [], ◌∷◌, map, length, take, drop, ◌==◌};
+// The distinct values with their counts, in lent memory: sorted by keys, then split into runs where they stand.
+ghost use Rattle.std.specs.Prelude.{◌≡◌, ◌≤◌, not, ◌&&◌, ◌||◌, List, [], ◌∷◌, map, length, take, ◌==◌};
 ghost use Rattle.std.specs.List.{zip};
 ghost use Rattle.column.specs.Kinds.{key, number_of};
 ghost use Rattle.column.specs.Columns.{Row};
 ghost use Rattle.stats.specs.Stats.{tally, distinct_of, distinct_part, commonest_after, commonest as commonest_of};
 ghost use Rattle.stats.specs.Table.{ascending, heads, lens};
-ghost use Rattle.stats.specs.Seen.{info_seen, part_seen, same_cell, number_in, most_in};
+ghost use Rattle.stats.specs.Seen.{info_seen, part_seen, number_in, most_in};
 
 use crate::integer::DistinctInfo;
 use column::kinds::Kind;
@@ -25,35 +25,34 @@ fn sort_keys(keys: &mut [u64])
     keys.sort_unstable();
 }
 
-// The runs of the first `n` words: each run's value put where they stood, each run's length in the next `n`. By index, as the same slice is read
-// and written.
-fn split_runs(table: &mut [u64], n: usize) -> usize
-    requires room { n + n ≤ length table.old }
-    ensures vals { take result table.new ≡ heads (take n table.old) }
-    ensures counts { take result (drop n table.new) ≡ lens (take n table.old) }
-    ensures few { result ≤ n }
-    ensures beyond { drop (n + n) table.new ≡ drop (n + n) table.old }
+// The runs of the values: each run's value put where they stood, each run's length in `counts`. By index, as the same slice is read and written.
+fn split_runs(values: &mut [u64], counts: &mut [u64]) -> usize
+    requires even { length counts.old ≡ length values.old }
+    ensures vals { take result values.new ≡ heads values.old }
+    ensures lengths { take result counts.new ≡ lens values.old }
+    ensures few { result ≤ length values.old }
 {
+    let n = values.len();
     if n == 0 {
         return 0;
     }
-    let mut cur = table[0];
+    let mut cur = values[0];
     let mut len: u64 = 1;
     let mut j: usize = 0;
     for i in 1..n {
-        let x = table[i];
+        let x = values[i];
         if x == cur {
             len += 1;
         } else {
-            table[j] = cur;
-            table[n + j] = len;
+            values[j] = cur;
+            counts[j] = len;
             j += 1;
             cur = x;
             len = 1;
         }
     }
-    table[j] = cur;
-    table[n + j] = len;
+    values[j] = cur;
+    counts[j] = len;
     j + 1
 }
 
@@ -74,20 +73,19 @@ fn commonest(vals: &[u64], counts: &[u64]) -> (u64, u64)
     )
 }
 
-// The distinct values of the first `n` words, ascending, put where they stood, with their counts from word `n` on.
-fn distinct_info(kind: Kind, table: &mut [u64], n: usize) -> DistinctInfo<u64>
-    requires rows { n ≤ 131072 }
-    requires room { n + n ≤ length table.old }
-    ensures stands { info_seen same_cell result n table.new ≡ distinct_of (tally (number_of kind) (take n table.old)) }
-    ensures few { result.distinct_count ≤ n }
-    ensures most { result.top_frequency ≤ n }
-    ensures beyond { drop (n + n) table.new ≡ drop (n + n) table.old }
+// The distinct values ascending, put where the values stood, and their counts.
+fn distinct_info(kind: Kind, values: &mut [u64], counts: &mut [u64]) -> DistinctInfo
+    requires rows { length values.old ≤ 131072 }
+    requires even { length counts.old ≡ length values.old }
+    ensures stands { info_seen result values.new counts.new ≡ distinct_of (tally (number_of kind) values.old) }
+    ensures few { result.distinct_count ≤ length values.old }
+    ensures most { result.top_frequency ≤ length values.old }
 {
-    turn(kind, &mut table[0..n]);
-    sort_keys(&mut table[0..n]);
-    let number = split_runs(table, n);
-    turn(kind, &mut table[0..number]);
-    let best = commonest(&table[0..number], &table[n..n + number]);
+    turn(kind, values);
+    sort_keys(values);
+    let number = split_runs(values, counts);
+    turn(kind, &mut values[..number]);
+    let best = commonest(&values[..number], &counts[..number]);
     DistinctInfo {
         distinct_count: number as u32,
         most_frequent_value: best.0,
@@ -102,24 +100,23 @@ fn has_part(rows: usize, n: usize, want: bool) -> bool
     rows != 0 && (n == 0 || want)
 }
 
-// The distinct part of a column of `rows` rows whose `n` values are the first words of the table.
+// The distinct part of a column of `rows` rows with these values.
 pub(crate) fn distinct_part(
     kind: Kind,
     rows: usize,
     want: bool,
-    table: &mut [u64],
-    n: usize,
-) -> Option<DistinctInfo<u64>>
-    requires rows { n ≤ 131072 }
-    requires room { n + n ≤ length table.old }
-    ensures stands { (rs : List Row) → length rs ≡ rows → part_seen same_cell result n table.new ≡ distinct_part want (number_of kind) rs (take n table.old) }
-    ensures few { number_in result ≤ n }
-    ensures most { most_in result ≤ n }
-    ensures beyond { drop (n + n) table.new ≡ drop (n + n) table.old }
+    values: &mut [u64],
+    counts: &mut [u64],
+) -> Option<DistinctInfo>
+    requires rows { length values.old ≤ 131072 }
+    requires even { length counts.old ≡ length values.old }
+    ensures stands { (rs : List Row) → length rs ≡ rows → part_seen result values.new counts.new ≡ distinct_part want (number_of kind) rs values.old }
+    ensures few { number_in result ≤ length values.old }
+    ensures most { most_in result ≤ length values.old }
 {
-    // Not `bool::then`: tried, and of a table that a closure changes a proof knows only the length.
-    if has_part(rows, n, want) {
-        Some(distinct_info(kind, table, n))
+    // Not `bool::then`: tried, and of a slice that a closure changes a proof knows only the length.
+    if has_part(rows, values.len(), want) {
+        Some(distinct_info(kind, values, counts))
     } else {
         None
     }

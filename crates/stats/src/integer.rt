@@ -1,11 +1,9 @@
 // The statistics of a column of whole numbers.
-ghost use Rattle.std.specs.Prelude.{◌≡◌, ℕ, ◌+◌, ◌-◌, ◌*◌, ◌%◌, ◌^◌, ◌<◌, ◌≤◌, List, [], length, drop};
-ghost use Rattle.std.proofs.Common.{of_z};
-ghost use Rattle.std.specs.Int.{w64};
-ghost use Rattle.column.specs.Kinds.{width as width_of, signed, number_of};
+ghost use Rattle.std.specs.Prelude.{◌≡◌, ℕ, ◌+◌, ◌*◌, ◌%◌, ◌^◌, ◌<◌, ◌≤◌, List, [], length, drop};
+ghost use Rattle.column.specs.Kinds.{width as width_of, number_of};
 ghost use Rattle.column.specs.Columns.{Offer, Clean, values, cleaned, offer_seen, seen};
 ghost use Rattle.stats.specs.Stats.{stats, distinct_count, distinct_values, distinct_counts, most_frequent, max_minus_min, min_is_zero, min_is_negative, max_ilog2, empty_stats, blank_stats};
-ghost use Rattle.stats.specs.Seen.{stats_seen, is_signed, info_cells, typed_cells, erased_cells, pairs, most as most_of, Holds, number_in, most_in, or_zero, count_or_zero};
+ghost use Rattle.stats.specs.Seen.{stats_seen, pairs, most as most_of, Holds, or_zero, count_or_zero};
 ghost use Rattle.column.specs.Views.{Alike};
 ghost use Rattle.stats.specs.Laws.{Right, Log2};
 
@@ -17,99 +15,24 @@ use column::kinds::Kind;
 use column::views::View;
 use packing::low_bits;
 
-// The distinct values, whose table lies in lent memory.
+// The distinct values, whose table lies in lent memory; the commonest is a cell.
 #[derive(Clone, Copy)]
-pub struct DistinctInfo<T> {
+pub struct DistinctInfo {
     pub(crate) distinct_count: u32,
-    pub(crate) most_frequent_value: T,
+    pub(crate) most_frequent_value: u64,
     pub(crate) top_frequency: u32,
 }
 
-// With the commonest value as its cell.
-impl From<DistinctInfo<i64>> for DistinctInfo<u64> {
-    ghost from_gives = { λ info cells. cells ≡ info_cells (of_z w64) info };
-
-    fn from(info: DistinctInfo<i64>) -> DistinctInfo<u64> {
-        DistinctInfo {
-            distinct_count: info.distinct_count,
-            most_frequent_value: info.most_frequent_value.cast_unsigned(),
-            top_frequency: info.top_frequency,
-        }
-    }
-}
-
-impl From<DistinctInfo<u64>> for DistinctInfo<i64> {
-    ghost from_gives = { λ cells info. info_cells (of_z w64) info ≡ cells };
-
-    fn from(cells: DistinctInfo<u64>) -> DistinctInfo<i64> {
-        DistinctInfo {
-            distinct_count: cells.distinct_count,
-            most_frequent_value: cells.most_frequent_value.cast_signed(),
-            top_frequency: cells.top_frequency,
-        }
-    }
-}
-
-// What differs by the type of the values.
-#[derive(Clone, Copy)]
-pub struct TypedStats<T> {
-    min: T,
-    max: T,
-    distinct: Option<DistinctInfo<T>>,
-}
-
-// With each value as its cell.
-impl From<TypedStats<i64>> for TypedStats<u64> {
-    ghost from_gives = { λ stats cells. cells ≡ typed_cells (of_z w64) stats };
-
-    fn from(stats: TypedStats<i64>) -> TypedStats<u64> {
-        TypedStats {
-            min: stats.min.cast_unsigned(),
-            max: stats.max.cast_unsigned(),
-            distinct: stats.distinct.map(|info| DistinctInfo::from(info)),
-        }
-    }
-}
-
-impl From<TypedStats<u64>> for TypedStats<i64> {
-    ghost from_gives = { λ cells stats. typed_cells (of_z w64) stats ≡ cells };
-
-    fn from(cells: TypedStats<u64>) -> TypedStats<i64> {
-        TypedStats {
-            min: cells.min.cast_signed(),
-            max: cells.max.cast_signed(),
-            distinct: cells.distinct.map(|info| DistinctInfo::from(info)),
-        }
-    }
-}
-
-#[derive(Clone, Copy)]
-pub enum ErasedStats {
-    Unsigned(TypedStats<u64>),
-    Signed(TypedStats<i64>),
-}
-
-impl ErasedStats {
-    // Signed numbers for a signed kind, else unsigned ones.
-    fn from_cells(kind: Kind, cells: TypedStats<u64>) -> ErasedStats
-        ensures cells { erased_cells result ≡ cells }
-        ensures typed { is_signed result ≡ signed (number_of kind) }
-    {
-        if kind.is_signed() {
-            ErasedStats::Signed(TypedStats::from(cells))
-        } else {
-            ErasedStats::Unsigned(cells)
-        }
-    }
-}
-
+// The ends are cells.
 #[derive(Clone, Copy)]
 pub struct IntegerStats {
     kind: Kind,
     null_count: u32,
     value_count: u32,
     average_run_length: u32,
-    erased: ErasedStats,
+    min: u64,
+    max: u64,
+    distinct: Option<DistinctInfo>,
 }
 
 // The values stand at the front of the table, then the counts; 64 words after twice the rows are for the blocks.
@@ -117,7 +40,6 @@ fn typed_int_stats(view: View<'_>, want: bool, table: &mut [u64]) -> IntegerStat
     requires room { 2 * length view.cells.now + 64 ≤ length table.old }
     ensures stands { stats_seen result table.new ≡ stats want (seen view.entry) }
     ensures kind { result.kind ≡ view.entry.kind }
-    ensures typed { is_signed result.erased ≡ signed (number_of view.entry.kind) }
     ensures few { pairs result ≤ result.value_count }
     ensures most { most_of result ≤ result.value_count }
     ensures rows { result.null_count + result.value_count ≡ length view.entry.cells.now }
@@ -131,13 +53,16 @@ fn typed_int_stats(view: View<'_>, want: bool, table: &mut [u64]) -> IntegerStat
     let at = 2 * rows;
     let runs = runs_from(view, first, &mut table[at..at + 64]);
     let value_count = count as u32;
-    let distinct = distinct_part(view.kind, rows, want, table, count);
+    let (values, rest) = table.split_at_mut(count);
+    let distinct = distinct_part(view.kind, rows, want, values, &mut rest[..count]);
     IntegerStats {
         kind: view.kind,
         null_count: (rows - count) as u32,
         value_count,
         average_run_length: average_run_length(value_count, runs),
-        erased: ErasedStats::from_cells(view.kind, TypedStats { min, max, distinct }),
+        min,
+        max,
+        distinct,
     }
 }
 
@@ -152,7 +77,6 @@ impl IntegerStats {
         requires room { 2 * length view.cells.now + 64 ≤ length table.old }
         ensures stands { stats_seen result table.new ≡ stats opts.count_distinct_values (seen view.entry) }
         ensures kind { result.kind ≡ view.entry.kind }
-        ensures typed { is_signed result.erased ≡ signed (number_of view.entry.kind) }
         ensures rows { result.null_count + result.value_count ≡ length view.entry.cells.now }
         ensures holds { Holds result table.new }
         ensures few { pairs result ≤ result.value_count }
@@ -184,28 +108,18 @@ impl IntegerStats {
         self.average_run_length
     }
 
-    // What differs by the type of the values, as cells.
-    fn cells(&self) -> TypedStats<u64>
-        ensures { result ≡ erased_cells self.now.erased }
-    {
-        match self.erased {
-            ErasedStats::Unsigned(s) => s,
-            ErasedStats::Signed(s) => TypedStats::from(s),
-        }
-    }
-
     // The least value as a cell, without one the kind's greatest.
     pub fn min(&self) -> u64
         ensures { result ≡ (stats_seen self.now []).least }
     {
-        self.cells().min
+        self.min
     }
 
     // The greatest value as a cell, without one the kind's least.
     pub fn max(&self) -> u64
         ensures { result ≡ (stats_seen self.now []).greatest }
     {
-        self.cells().max
+        self.max
     }
 
     // How many values are distinct, if they were counted.
@@ -213,8 +127,7 @@ impl IntegerStats {
         ensures stands { (t : List ℕ) → Holds self.now t → result ≡ distinct_count (stats_seen self.now t) }
         ensures pairs { or_zero result ≡ pairs self.now }
     {
-        let cells = self.cells();
-        Some(cells.distinct?.distinct_count)
+        Some(self.distinct?.distinct_count)
     }
 
     // The commonest value as a cell, the least among equals, with its count.
@@ -222,7 +135,7 @@ impl IntegerStats {
         ensures stands { (t : List ℕ) → result ≡ most_frequent (stats_seen self.now t) }
         ensures most { count_or_zero result ≡ most_of self.now }
     {
-        let info = self.cells().distinct?;
+        let info = self.distinct?;
         Some((info.most_frequent_value, info.top_frequency))
     }
 

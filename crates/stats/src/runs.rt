@@ -1,13 +1,33 @@
 // Runs of equal values, counted by blocks of 64 rows with a presence word each.
-ghost use Rattle.std.specs.Prelude.{◌≡◌, ◌+◌, ◌-◌, ◌*◌, ◌/◌, ◌^◌, ◌<◌, ◌≤◌, length, if◌then◌else◌, nat_eq, slice_get};
+ghost use Rattle.std.specs.Prelude.{◌≡◌, ◌+◌, ◌^◌, ◌<◌, ◌≤◌, length, if◌then◌else◌, nat_eq, slice_get};
 ghost use Rattle.column.specs.Columns.{seen, values};
 ghost use Rattle.column.specs.Words.{bit};
-ghost use Rattle.stats.specs.Stats.{changes, runs as run_count, quotient};
-ghost use Rattle.stats.specs.Blocks.{last_or, kept_from, filled_from};
+ghost use Rattle.stats.specs.Stats.{runs as run_count, quotient};
+ghost use Rattle.stats.specs.Blocks.{kept_from, filled_from, state_after};
 
 use column::blocks::Block;
 use column::rows::is_set;
 use column::views::View;
+
+// A cell whose bit is set, or what came before it.
+fn carried(valid: u64, i: usize, cell: u64, last: u64) -> u64
+    requires bit { i < 64 }
+    ensures { result ≡ (if bit valid i then cell else last) }
+{
+    if is_set(valid, i) { cell } else { last }
+}
+
+// Each blank, whose bit in `valid` is 0, becomes the value before it, or `prev`.
+fn forward_fill(filled: &mut [u64], valid: u64, prev: u64)
+    requires few { length filled.old ≤ 64 }
+    ensures { filled.new ≡ filled_from valid 0 prev filled.old }
+{
+    let mut last = prev;
+    for (i, cell) in filled.iter_mut().enumerate() {
+        last = carried(valid, i, *cell, last);
+        *cell = last;
+    }
+}
 
 // The last value seen, and the runs so far.
 #[derive(Drop)]
@@ -39,76 +59,52 @@ impl LoopState {
             self.runs += 1;
         }
     }
-}
 
-// One more block without blanks.
-fn inner_loop_nonnull(values: &[u64], state: &mut LoopState)
-    requires fits { state.old.runs + length values.now < 2 ^ 32 }
-    ensures runs { state.new.runs ≡ state.old.runs + changes state.old.prev values.now }
-    ensures prev { state.new.prev ≡ last_or state.old.prev values.now }
-{
-    for v in values {
-        state.push(*v);
+    // One more block without blanks.
+    fn inner_loop_nonnull(&mut self, values: &[u64])
+        requires fits { self.old.runs + length values.now < 2 ^ 32 }
+        ensures { self.new ≡ state_after self.old values.now }
+    {
+        for v in values {
+            self.push(*v);
+        }
     }
-}
 
-// A cell whose bit is set, or what came before it.
-fn carried(valid: u64, i: usize, cell: u64, last: u64) -> u64
-    requires bit { i < 64 }
-    ensures { result ≡ (if bit valid i then cell else last) }
-{
-    if is_set(valid, i) { cell } else { last }
-}
-
-// Each blank, whose bit in `valid` is 0, becomes the value before it, or `prev`.
-fn forward_fill(filled: &mut [u64], valid: u64, prev: u64)
-    requires few { length filled.old ≤ 64 }
-    ensures { filled.new ≡ filled_from valid 0 prev filled.old }
-{
-    let mut last = prev;
-    for (i, cell) in filled.iter_mut().enumerate() {
-        last = carried(valid, i, *cell, last);
-        *cell = last;
+    // One more block with blanks. A copy in `work` is filled and then counted, as in the ported crate: the counting loop has no case for blanks.
+    fn inner_loop_nullable(&mut self, block: Block<'_>, work: &mut [u64])
+        requires room { length block.cells.now ≤ length work.old }
+        requires fits { self.old.runs + length block.cells.now < 2 ^ 32 }
+        ensures { self.new ≡ state_after self.old (kept_from block.entry.word 0 block.entry.cells.now) }
+    {
+        let filled = &mut work[0..block.cells.len()];
+        filled.copy_from_slice(block.cells);
+        forward_fill(filled, block.word, self.prev);
+        self.inner_loop_nonnull(filled);
     }
-}
 
-// One more block with blanks; `work` is lent for the filled copy.
-fn inner_loop_nullable(block: Block<'_>, work: &mut [u64], state: &mut LoopState)
-    requires room { length block.cells.now ≤ length work.old }
-    requires fits { state.old.runs + length block.cells.now < 2 ^ 32 }
-    ensures runs { state.new.runs ≡ state.old.runs + changes state.old.prev (kept_from block.entry.word 0 block.entry.cells.now) }
-    ensures prev { state.new.prev ≡ last_or state.old.prev (kept_from block.entry.word 0 block.entry.cells.now) }
-{
-    let filled = &mut work[0..block.cells.len()];
-    filled.copy_from_slice(block.cells);
-    forward_fill(filled, block.word, state.prev);
-    inner_loop_nonnull(filled, state);
-}
-
-// One more block.
-fn inner_loop(block: Block<'_>, work: &mut [u64], state: &mut LoopState)
-    requires room { length block.cells.now ≤ length work.old }
-    requires fits { state.old.runs + length block.cells.now < 2 ^ 32 }
-    ensures runs { state.new.runs ≡ state.old.runs + changes state.old.prev (kept_from block.entry.word 0 block.entry.cells.now) }
-    ensures prev { state.new.prev ≡ last_or state.old.prev (kept_from block.entry.word 0 block.entry.cells.now) }
-{
-    match block.word {
-        0 => {}
-        u64::MAX => inner_loop_nonnull(block.cells, state),
-        _ => inner_loop_nullable(block, work, state),
+    // One more block.
+    fn inner_loop(&mut self, block: Block<'_>, work: &mut [u64])
+        requires room { length block.cells.now ≤ length work.old }
+        requires fits { self.old.runs + length block.cells.now < 2 ^ 32 }
+        ensures { self.new ≡ state_after self.old (kept_from block.entry.word 0 block.entry.cells.now) }
+    {
+        match block.word {
+            0 => {}
+            u64::MAX => self.inner_loop_nonnull(block.cells),
+            _ => self.inner_loop_nullable(block, work),
+        }
     }
-}
 
-// All blocks, with the last value carried on.
-fn count_runs(view: View<'_>, work: &mut [u64], state: &mut LoopState)
-    requires room { 64 ≤ length work.old }
-    requires start { state.old.runs ≤ 1 }
-    ensures runs { state.new.runs ≡ state.old.runs + changes state.old.prev (values (seen view.entry)) }
-    ensures prev { state.new.prev ≡ last_or state.old.prev (values (seen view.entry)) }
-{
-    for (cells, word) in view.cells.chunks(64).zip(view.words) {
-        let block = Block { cells, word: *word };
-        inner_loop(block, work, state);
+    // All blocks, with the last value carried on.
+    fn count_runs(&mut self, view: View<'_>, work: &mut [u64])
+        requires room { 64 ≤ length work.old }
+        requires start { self.old.runs ≤ 1 }
+        ensures { self.new ≡ state_after self.old (values (seen view.entry)) }
+    {
+        for (cells, word) in view.cells.chunks(64).zip(view.words) {
+            let block = Block { cells, word: *word };
+            self.inner_loop(block, work);
+        }
     }
 }
 
@@ -122,7 +118,7 @@ pub(crate) fn runs_from(view: View<'_>, first: Option<u64>, work: &mut [u64]) ->
         return 0;
     };
     let mut state = LoopState::new(first);
-    count_runs(view, work, &mut state);
+    state.count_runs(view, work);
     state.runs
 }
 

@@ -10,7 +10,7 @@ use column::kinds::Kind;
 use column::rows::is_set;
 use column::views::View;
 
-// The cells of one block whose bit is set, put after the first `at`.
+// The cells of one block whose bit is set, put after the first `at`. Counted by hand: `n` is the next place, and at the end the answer.
 fn gather_block(block: Block<'_>, out: &mut [u64], at: usize) -> usize
     requires room { at + length block.cells.now ≤ length out.old }
     ensures front { take result out.new ≡ take at out.old ++ kept_from block.entry.word 0 block.entry.cells.now }

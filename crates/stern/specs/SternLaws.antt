@@ -3,10 +3,11 @@ use Rattle.std.specs.Prelude.{◌≡◌, ℕ, suc, ◌+◌, ◌<◌, Bool, true,
 use Rattle.std.proofs.Common.{zero-le, arith, ap}
 use Rattle.column.specs.Kinds.{width}
 use Rattle.column.specs.Columns.{Row, Column, Clean, has_blank}
+use Rattle.column.proofs.RowLaws.{clean-kind}
 use Rattle.node.specs.Payloads.{plain_payload, flag_of}
 use Rattle.node.proofs.LeafLaws.{plain_back, length-plain, plain-small, below_plain}
 use Rattle.node.proofs.MaskLaws.{flag_small}
-use Rattle.node.proofs.WidthLaws.{width-most, clean-kind}
+use Rattle.node.proofs.WidthLaws.{width-most}
 use Rattle.scheme.specs.Meaning.{Parts, PartsKeep, PartedKeeps, Keeps}
 use Rattle.stern.specs.Stern.{thirteen_by, thirteen_from, stern_parts, stern}
 

@@ -87,10 +87,7 @@ impl Scheme for SternScheme {
             return Err(RowRefused { row });
         }
         let extent = Extent::of(array.view);
-        let none = ChildShape {
-            kind: extent.kind,
-            rows: 0,
-        };
+        let none = ChildShape::none(extent.kind);
         Ok(Shape {
             payload: extent.plain_len(),
             cell_bits: extent.kind.width() as u8,
@@ -112,7 +109,7 @@ impl Scheme for SternScheme {
     }
 }
 
-// The head of a plain node with these fields.
+// The head of a plain node with these fields. Its form is the number that a plain head stores; the forms themselves are private to `node`.
 fn plain_head(stored: Stored<'_>) -> Head
     ensures { result ≡ plain_head (number_of stored.entry.kind) stored.entry.cell_bits stored.entry.flag stored.entry.rows }
 {

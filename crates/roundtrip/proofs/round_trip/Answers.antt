@@ -1,8 +1,8 @@
 use Rattle.std.proofs.Common.{length, sym, ap, ◌∙◌, arith}
 use Rattle.column.specs.Columns.{seen, offer_seen}
 use Rattle.column.specs.Kinds.{number_of}
+use Rattle.column.proofs.RowLaws.{length-offered}
 use Rattle.scheme.specs.Memory.{held}
-use Rattle.scheme.proofs.StoredLaws.{length-offered}
 use Rattle.roundtrip.specs.Trips.{child_offer}
 use Rattle.roundtrip.proofs.TripLaws.{laid, short0, short1, trip}
 use Rattle.roundtrip.proofs.round_trip.Goals as goal

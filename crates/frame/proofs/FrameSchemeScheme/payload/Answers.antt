@@ -2,7 +2,7 @@ use Rattle.std.proofs.Common.{◌≤◌, length, sym, ap, ◌∙◌, subst, arit
 use Rattle.std.proofs.lemmas.List.{length-map}
 use Rattle.packing.specs.Packing.{written}
 use Rattle.column.specs.Columns.{seen}
-use Rattle.node.proofs.ViewLaws.{view-rows}
+use Rattle.column.proofs.ViewLaws.{view-rows}
 use Rattle.frame.specs.Frame.{over_base}
 use Rattle.frame.proofs.Distances.{payload-is, distances-below}
 use Rattle.frame.proofs.FrameSchemeScheme.payload.Goals as goal

@@ -2,7 +2,7 @@ use Rattle.std.proofs.Common.{◌<◌, ◌≤◌, [], ◌∷◌, ◌++◌, map, 
 use Rattle.std.proofs.lemmas.List.{map_more, take_all, take_more_set}
 use Rattle.column.specs.Kinds.{number_of}
 use Rattle.column.specs.Columns.{seen}
-use Rattle.node.proofs.ViewLaws.{view-rows}
+use Rattle.column.proofs.ViewLaws.{view-rows}
 use Rattle.frame.specs.Frame.{over_base}
 use Rattle.frame.proofs.Distances.{distance_is}
 use Rattle.frame.proofs.payloads.write_distances.Goals as goal

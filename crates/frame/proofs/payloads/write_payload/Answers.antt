@@ -1,5 +1,4 @@
-use Rattle.std.proofs.Common.{◌≡◌, [], ◌∷◌, sym, ap, ◌∙◌}
-use Rattle.packing.specs.Packing.{packed, packed_len, low_bits, written}
+use Rattle.std.proofs.Common.{[], ◌∷◌, sym, ◌∙◌}
 use Rattle.column.specs.Columns.{seen}
 use Rattle.column.specs.Kinds.{number_of}
 use Rattle.node.specs.Payloads.{at_width}
@@ -13,7 +12,5 @@ returns c =
     let k = number_of c.args.array.view.kind in
     let least = c.args.reference.least ∷ [] in
     let body = body_by c.args.reference.bits c.args.distances.now (seen c.args.array.view).rows in
-    let m : c.pack.new.out ≡ written (at_width k least) c.args.out.now =
-    c.pack.ensures ∙ ap (λ w. written (packed w (low_bits w least)) c.args.out.now) c.width-width.ensures in
-    then-written (at_width k least) body c.args.out.now c.pack.new.out c.write_body.new.out c.packed_len-start.result
-    (c.packed_len-start.ensures ∙ ap (λ w. packed_len w 1) c.width-width.ensures ∙ sym (length-at_width k least)) m c.write_body.ensures
+    then-written (at_width k least) body c.args.out.now c.write_at_width-start.new.out c.write_body.new.out c.write_at_width-start.result
+    (c.write_at_width-start.ensures.len ∙ sym (length-at_width k least)) c.write_at_width-start.ensures.bytes c.write_body.ensures

@@ -13,8 +13,8 @@ loaded c =
     let f = c.args.flag in
     let n = c.args.rows in
     let bs = c.args.bytes.now in
-    let k : c.div_ceil.result ≡ words_for n = omega (arith, c.div_ceil.ensures) in
-    let len : length (take c.div_ceil.result c.args.words.now) ≡ words_for n = length-take-le c.div_ceil.result c.args.words.now (omega arith) ∙ k in
+    let k : c.words_for.result ≡ words_for n = omega (arith, c.words_for.ensures) in
+    let len : length (take c.words_for.result c.args.words.now) ≡ words_for n = length-take-le c.words_for.result c.args.words.now (omega arith) ∙ k in
     elim c.if-flag-eq0.branch [
       | then-flag-eq0 v ↦
           ones-loaded f n bs c.if-flag-eq0.words (v.words-is ∙ v.fill.ensures.after (λ y e. search rules) ∙ ap (λ m. replicate m (2 ^ 64 - 1)) len) v.if-flag-eq0.true
@@ -29,13 +29,13 @@ front n k bits ws old e h = λ i. e i ++ drop ((h ∙ sym (length_digits (2 ^ 64
 pub returns-then-rest-ne0 : goal.returns-then-rest-ne0
 returns-then-rest-ne0 c =
     let l = loaded (goal.at.returns-then-rest-ne0 c).Joined-flag-eq0 in
-    front c.args.rows c.div_ceil.result _ _ c.args.words.now
+    front c.args.rows c.words_for.result _ _ c.args.words.now
     (part-cleared c.args.flag c.args.rows c.args.bytes.now c.if-flag-eq0.words l c.if-rest-ne0.true c.low_bits.result c.low_bits.ensures)
-    (omega (arith, c.div_ceil.ensures))
+    (omega (arith, c.words_for.ensures))
 
 pub returns-else-rest-ne0 : goal.returns-else-rest-ne0
 returns-else-rest-ne0 c =
     let l = loaded (goal.at.returns-else-rest-ne0 c).Joined-flag-eq0 in
-    front c.args.rows c.div_ceil.result _ _ c.args.words.now
+    front c.args.rows c.words_for.result _ _ c.args.words.now
     (whole-loaded c.args.flag c.args.rows c.args.bytes.now c.if-flag-eq0.words l c.if-rest-ne0.false)
-    (omega (arith, c.div_ceil.ensures))
+    (omega (arith, c.words_for.ensures))

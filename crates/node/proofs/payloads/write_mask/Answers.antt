@@ -1,9 +1,9 @@
 use Rattle.std.proofs.Common.{◌≤◌, length, sym, ap, ◌∙◌, arith}
 use Rattle.packing.specs.Packing.{packed_len, written}
 use Rattle.column.specs.Columns.{seen}
+use Rattle.column.proofs.ViewLaws.{view-rows, view-words}
 use Rattle.node.specs.Payloads.{mask}
 use Rattle.node.proofs.MaskLaws.{mask-len-by, mask-of-words}
-use Rattle.node.proofs.ViewLaws.{view-rows, view-words}
 use Rattle.node.proofs.payloads.write_mask.Goals as goal
 
 pub put_bits-requires : goal.put_bits-requires

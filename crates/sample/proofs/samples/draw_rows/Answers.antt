@@ -1,10 +1,11 @@
-use Rattle.std.proofs.Common.{◌≡◌, ◌+◌, ◌*◌, ◌≤◌, length, refl, ap, ◌∙◌, arith}
+use Rattle.std.proofs.Common.{◌≡◌, ◌+◌, ◌*◌, ◌≤◌, length, sym, refl, ap, ◌∙◌, arith}
 use Rattle.packing.specs.Packing.{written}
 use Rattle.column.specs.Columns.{cells, presence, seen}
+use Rattle.column.proofs.ViewLaws.{view-rows, view-cells}
 use Rattle.sample.specs.Samples.{strata, seed, bounds_of}
 use Rattle.sample.specs.Laws.{stratum_at}
 use Rattle.sample.proofs.StrataLaws.{length-strata, wide, ends}
-use Rattle.sample.proofs.Steps.{asked, draw-room, cells-more, words_more, cells-all, words-all, sample-large, after_more, view-rows, view-cells, words-room, word-is}
+use Rattle.sample.proofs.Steps.{asked, draw-room, cells-more, words_more, cells-all, words-all, sample-large, after_more, words-room, word-is}
 use Rattle.sample.proofs.samples.draw_rows.Goals as goal
 
 pub overflow_sub-stop : goal.overflow_sub-stop
@@ -84,7 +85,7 @@ returns g c =
     let k = length c.args.words.now in
     let i = c.loop-i.i in
     let ps = strata n k in
-    let s = sample-large d rs n k (view-rows v) c.requires.counted c.requires.large in
+    let s = sample-large d rs n k (sym (view-rows v)) c.requires.counted c.requires.large in
     record {
       cells =
           cells-all d ps i rs c.loop-i.cells _ (omega (arith, length-strata n k, c.loop-i-test.false)) c.loop-i.invariant.1

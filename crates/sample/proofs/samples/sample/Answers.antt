@@ -1,7 +1,8 @@
-use Rattle.std.proofs.Common.{length, arith}
+use Rattle.std.proofs.Common.{length, sym, arith}
 use Rattle.column.specs.Columns.{seen}
+use Rattle.column.proofs.ViewLaws.{view-rows}
 use Rattle.sample.proofs.SampleLaws.{none-drawn, some-drawn, own, sampled-words, drawn-into}
-use Rattle.sample.proofs.Steps.{front_is, view-rows}
+use Rattle.sample.proofs.Steps.{front_is}
 use Rattle.sample.proofs.samples.sample.Goals as goal
 
 pub returns-then-rows-count : goal.returns-then-rows-count
@@ -10,7 +11,7 @@ returns-then-rows-count g c =
     let k = c.sample_count-count.result in
     record {
       rows = none-drawn n k c.sample_count-count.ensures (omega arith);
-      sampled = own g.D.Draws.source (seen c.args.array.view) _ _ n k (view-rows c.args.array.view) c.sample_count-count.ensures (omega arith);
+      sampled = own g.D.Draws.source (seen c.args.array.view) _ _ n k (sym (view-rows c.args.array.view)) c.sample_count-count.ensures (omega arith);
     }
 
 pub returns : goal.returns
@@ -20,7 +21,7 @@ returns g c =
     record {
       rows = some-drawn n k c.sample_count-count.ensures (omega arith);
       sampled =
-          drawn-into g.D.Draws.source g.met.D.Draws.within (seen c.args.array.view) _ _ _ _ n k c.args.array.clean.clean (view-rows c.args.array.view) c.sample_count-count.ensures (omega arith)
+          drawn-into g.D.Draws.source g.met.D.Draws.within (seen c.args.array.view) _ _ _ _ n k c.args.array.clean.clean (sym (view-rows c.args.array.view)) c.sample_count-count.ensures (omega arith)
           c.draw_rows.ensures.cells
-          (front_is _ _ _ k (sampled-words g.D.Draws.source g.met.D.Draws.within (seen c.args.array.view).rows n k (view-rows c.args.array.view) c.sample_count-count.ensures (omega arith)) c.draw_rows.ensures.words);
+          (front_is _ _ _ k (sampled-words g.D.Draws.source g.met.D.Draws.within (seen c.args.array.view).rows n k (sym (view-rows c.args.array.view)) c.sample_count-count.ensures (omega arith)) c.draw_rows.ensures.words);
     }

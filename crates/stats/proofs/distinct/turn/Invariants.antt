@@ -3,4 +3,4 @@ use Rattle.column.specs.Kinds.{key, number_of}
 use Rattle.stats.proofs.distinct.turn.Given as goal
 
 abbrev pub invariant-loop-cell : goal.invariant-loop-cell
-invariant-loop-cell l = take l.cell-index l.cells ++ map (key (number_of l.kind)) (drop l.cell-index l.cells) ≡ map (key (number_of l.kind)) l.initial.cells
+invariant-loop-cell l = l.cells ≡ map (key (number_of l.kind)) (take l.cell-index l.initial.cells) ++ drop l.cell-index l.initial.cells

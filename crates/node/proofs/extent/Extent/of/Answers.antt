@@ -1,5 +1,5 @@
 use Rattle.std.proofs.Common.{sym, ◌∙◌}
-use Rattle.node.proofs.ViewLaws.{view-rows}
+use Rattle.column.proofs.ViewLaws.{view-rows}
 use Rattle.node.proofs.extent.Extent.of.Goals as goal
 
 pub returns-clause-rows : goal.returns-clause-rows

@@ -16,7 +16,7 @@ returns c =
     let rest = drop (packed_len (width k) 1) c.args.self.payload.now in
     let cs = c.fill.new.self in
     let l : length cs ≡ n = c.fill.auto.self in
-    let e : cs ≡ replicate n v = c.fill.ensures.after (λ y q. search rules) ∙ ap (λ xs. replicate n (get_or xs 0 0)) c.read_at_width.ensures in
+    let e : cs ≡ replicate n v = c.fill.ensures.after (λ y q. search rules) ∙ ap (replicate n) c.read_one_at_width.ensures in
     let r : c.from.result.now ≡ rest = c.from.ensures ∙ ap (λ m. drop m c.args.self.payload.now) (c.packed_len-len.ensures ∙ ap (λ b. packed_len b 1) c.width.ensures) in
     let w : c.read_mask.new.words ≡ written (words_of n (unmask f n rest)) c.args.words.now =
     c.read_mask.ensures ∙ (λ i. written (words_of (l i) (unmask f (l i) (r i))) c.args.words.now) in

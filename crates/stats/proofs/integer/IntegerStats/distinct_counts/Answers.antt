@@ -9,4 +9,4 @@ returns c =
     let t = c.args.table.now in
     let n = s.value_count in
     let e : n + c.pairs.result - n ≡ pairs s = omega (arith, c.pairs.ensures) in
-    ap (λ z. take z (drop n t)) e ∙ counts_of n s.erased t c.requires.holds
+    ap (λ z. take z (drop n t)) e ∙ counts_of s.distinct n t c.requires.holds

@@ -8,4 +8,4 @@ returns c =
     let s = c.args.self.now in
     let t = c.args.table.now in
     let e : c.pairs-n.result - 0 ≡ pairs s = omega (arith, c.pairs-n.ensures) in
-    ap (λ z. take z t) e ∙ values_of s.value_count s.erased t c.requires.holds
+    ap (λ z. take z t) e ∙ values_of s.distinct s.value_count t c.requires.holds
