@@ -1,6 +1,6 @@
 // The sample of a column.
 ghost use Rattle.std.specs.Prelude.{◌≡◌, ◌+◌, ◌*◌, ◌/◌, ◌%◌, ◌^◌, ◌<◌, ◌≤◌, length, take, drop};
-ghost use Rattle.column.specs.Columns.{cells as cells_of, presence, seen};
+ghost use Rattle.column.specs.Columns.{cells as cells_of, presence, seen, words_for};
 ghost use Rattle.packing.specs.Packing.{joined, written, written_at};
 ghost use Rattle.sample.specs.Samples.{drawn_rows, sample_count, sample_rows};
 ghost use Rattle.sample.specs.Laws.{Sampled};
@@ -19,8 +19,8 @@ pub fn sample<D: Draws + Drop>(
     cells: &mut [u64],
     words: &mut [u64],
 ) -> Option<usize>
-    requires cells_room { 64 * sample_count (length array.view.cells.now) ≤ length cells.old }
-    requires words_room { sample_count (length array.view.cells.now) ≤ length words.old }
+    requires cells_room { length array.view.cells.now ≤ length cells.old }
+    requires words_room { words_for (length array.view.cells.now) ≤ length words.old }
     ensures rows { result ≡ drawn_rows (length array.entry.view.cells.now) }
     ensures sampled { Sampled D.Draws.source (seen array.entry.view) cells.old words.old cells.new words.new result }
 {
