@@ -1,0 +1,10 @@
+pub mod NodeLists
+pub mod OpenLaws
+pub mod HeldLaws
+pub mod MadeLaws
+pub mod BackLaws
+pub mod StepLaws
+pub mod HideLaws
+pub mod RunLaws
+pub mod SameBytes
+pub mod GoingLaws

@@ -1,7 +1,5 @@
 -- What each call of a binder answers and leaves: the contracts of the calls, and the steps of a run.
-use Rattle.std.specs.Prelude.{◌≡◌, ℕ, zero, suc, ◌+◌, ◌-◌, ◌≤◌, Bool, true, false, ◌||◌, List, ◌++◌, length, drop, replicate, Some, None, Ok, Err, Option, Result, nat_le, nat_lt}
-use Rattle.std.proofs.Math.ListN.{get_elem?}
-use Rattle.std.proofs.Math.Option.{some}
+use Rattle.std.specs.Prelude.{◌≡◌, ℕ, zero, suc, ◌+◌, ◌-◌, ◌≤◌, Bool, true, false, ◌||◌, List, ◌++◌, length, drop, replicate, Some, None, Ok, Err, Option, Result, nat_le, nat_lt, slice_get}
 use Rattle.packing.specs.Packing.{written, written_at}
 use Rattle.column.specs.declared.refusals.Refusal.{Refusal}
 use Rattle.column.specs.declared.refusals.Refusal.TheVariants.{LittleMemory, ManyColumns, LittleSpace, UnknownColumn, ShortBuffers}
@@ -93,14 +91,15 @@ abbrev pub Names : Column → Result Fetched Refusal → Type 0
 Names c (Err e) = ⊥
 Names c (Ok f) = (number_of f.kind ≡ c.kind) × (f.rows ≡ length c.rows)
 
--- a column of n rows is refused: places too short, then too little working memory
+-- places too short, then too little working memory
+abbrev pub short_if : Bool → Bool → Option Refusal
+short_if true b = Some ShortBuffers
+short_if false true = Some LittleMemory
+short_if false false = None
+
+-- why a column of n rows is refused
 abbrev pub short_by : Setting → ℕ → Lent → ℕ → Option Refusal
 short_by set n x m = short_if (nat_lt (length x.cells) n || nat_lt (length x.words) (words_for n)) (nat_lt m (working_memory set.levels n))
-  where
-    short_if : Bool → Bool → Option Refusal
-    short_if true b = Some ShortBuffers
-    short_if false true = Some LittleMemory
-    short_if false false = None
 
 abbrev pub GivenBy : Option Refusal → Column → Lent → Result Fetched Refusal → Lent → Type 0
 GivenBy (Some e) c x r y = (r ≡ Err e) × (y ≡ x)
@@ -122,7 +121,7 @@ pub record Fetch (set : Setting) (s : State) (i m : ℕ) (x : Lent) (r : Result 
   -- no such number
   pub unknown : s.count ≤ i → (r ≡ Err UnknownColumn) × (y ≡ x)
   -- a column that the binder holds
-  pub given : (cs : List Column) → Held set s cs → (c : Column) → get_elem? cs i ≡ some c → Given set c x m r y
+  pub given : (cs : List Column) → Held set s cs → (c : Column) → slice_get cs i ≡ Some c → Given set c x m r y
   pub astray : Astray x r y
 
 -- ---- weigh

@@ -1,3 +1,4 @@
 pub mod Openings
 pub mod Calls
 pub mod Runs
+pub mod Going

@@ -1,9 +1,9 @@
 -- The law over every run of calls since a binder was opened.
-use Rattle.std.specs.Prelude.{◌≡◌, ℕ, ◌≤◌, false, List, [], ◌∷◌, ◌++◌, length, replicate, Ok, Err, Result}
-use Rattle.std.proofs.Math.Option.{some}
-use Rattle.std.proofs.Math.ListN.{get_elem?}
+use Rattle.std.specs.Prelude.{◌≡◌, ℕ, ◌≤◌, false, List, [], ◌∷◌, ◌++◌, length, take, replicate, Some, None, Ok, Err, Option, Result, slice_get}
 use Rattle.column.specs.declared.refusals.Refusal.{Refusal}
-use Rattle.column.specs.Columns.{Column, Offer, cleaned}
+use Rattle.column.specs.declared.refusals.Refusal.TheVariants.{UnknownColumn}
+use Rattle.column.specs.Kinds.{number_of}
+use Rattle.column.specs.Columns.{Column, Offer, cleaned, offer_refused, words_for}
 use Rattle.column.specs.Views.{Alike}
 use Rattle.node.specs.Nodes.{Node, flats, whole, weight, plain_node}
 use Rattle.levels.specs.NodesOf.{Each}
@@ -11,7 +11,7 @@ use Rattle.levels.specs.Standing.{Stands}
 use Rattle.calls.specs.declared.answers.Fetched.{Fetched}
 use Rattle.calls.specs.declared.answers.Weighed.{Weighed}
 use Rattle.calls.specs.Openings.{Setting, Granted}
-use Rattle.calls.specs.Calls.{State, opened, Bind, Fetch, Weigh, Lent, Names, filled_with}
+use Rattle.calls.specs.Calls.{State, opened, Bind, Fetch, Weigh, Lent, Given}
 
 -- a call with what it was lent, what it answered, and what it left in the places lent
 pub data Event : Type 0 where
@@ -32,7 +32,7 @@ abbrev pub Run : Setting → State → List Event → State → Type 0
 Run set s [] u = s ≡ u
 Run set s (e ∷ es) u = (t : State) × (Step set s e t × Run set t es u)
 
--- ---- (a) a granted fetch gives what was bound
+-- ---- (a) a fetch gives what was bound, and a weighing weighs it
 
 -- the columns accepted so far, in order, after one more call
 abbrev pub after : List Column → Event → List Column
@@ -45,22 +45,31 @@ abbrev pub accepted_from : List Column → List Event → List Column
 accepted_from cs [] = cs
 accepted_from cs (e ∷ es) = accepted_from (after cs e) es
 
--- a granted fetch of i gives the rows of the i-th accepted bind, and touches nothing else
-abbrev pub Gives : List Column → ℕ → Lent → Result Fetched Refusal → Lent → Type 0
-Gives cs i x (Err e) y = y ≡ x
-Gives cs i x (Ok f) y = (c : Column) × ((get_elem? cs i ≡ some c) × (Names c (Ok f) × (y ≡ filled_with c x)))
+-- what a granted fetch left in the places, as an offer
+abbrev pub handed_back : Fetched → Lent → Offer
+handed_back f y = record { kind = number_of f.kind; cells = take f.rows y.cells; words = take (words_for f.rows) y.words }
 
--- a granted weighing of i gives the weight and the whole length of a node that stands for the i-th accepted bind
-abbrev pub Weighs : Setting → List Column → ℕ → Result Weighed Refusal → Type 0
-Weighs set cs i (Err e) = length cs ≤ i
-Weighs set cs i (Ok w) =
-    (c : Column) × ((n : Node) × ((get_elem? cs i ≡ some c) × (Stands set.opening false set.levels c [] n × ((w.weight ≡ weight n) × (w.whole ≡ whole n)))))
+-- offered again it is the same column, and no refusal turns it away
+abbrev pub Back : Column → Result Fetched Refusal → Lent → Type 0
+Back c (Err e) y = Unit {0}
+Back c (Ok f) y = (cleaned (handed_back f y) ≡ c) × (offer_refused (handed_back f y) ≡ None)
 
+-- a fetch of the i-th accepted column gives its rows and touches nothing else, or is refused as the table says; without one it is refused
+abbrev pub Gives : Setting → Option Column → ℕ → Lent → Result Fetched Refusal → Lent → Type 0
+Gives set None m x r y = (r ≡ Err UnknownColumn) × (y ≡ x)
+Gives set (Some c) m x r y = Given set c x m r y × Back c r y
+
+-- a weighing of the i-th accepted column gives the weight and the whole length of a node that stands for it; without one it is refused
+abbrev pub Weighs : Setting → Option Column → Result Weighed Refusal → Type 0
+Weighs set None r = r ≡ Err UnknownColumn
+Weighs set (Some c) r = (n : Node) × (Stands set.opening false set.levels c [] n × (r ≡ Ok (record { weight = weight n; whole = whole n })))
+
+-- an accepted bind gives the number of columns accepted before it; a refused one adds none
 abbrev pub LawfulCall : Setting → List Column → Event → Type 0
 LawfulCall set cs (bound o m (Ok k)) = k ≡ length cs
 LawfulCall set cs (bound o m (Err e)) = Unit {0}
-LawfulCall set cs (fetched i m x r y) = Gives cs i x r y
-LawfulCall set cs (weighed i r) = Weighs set cs i r
+LawfulCall set cs (fetched i m x r y) = Gives set (slice_get cs i) m x r y
+LawfulCall set cs (weighed i r) = Weighs set (slice_get cs i) r
 
 abbrev pub Lawful : Setting → List Column → List Event → Type 0
 Lawful set cs [] = Unit {0}
@@ -72,6 +81,7 @@ pub record Kept (set : Setting) (room : ℕ) (cs : List Column) (u : State) : Ty
   pub nodes : List Node
   pub stand : Each (λ c n. Stands set.opening false set.levels c [] n × (weight n ≤ weight (plain_node c))) cs nodes
   pub count : u.count ≡ length cs
+  pub used : u.used ≡ length (flats nodes)
   pub zeros : ℕ
   pub layout : u.bytes ≡ flats nodes ++ replicate zeros 0
   pub size : length u.bytes ≡ room

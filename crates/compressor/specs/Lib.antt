@@ -1,0 +1,2 @@
+pub mod Compressed
+pub mod Decompressed

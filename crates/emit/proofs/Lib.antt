@@ -1,0 +1,4 @@
+pub mod Plan
+pub mod Forms
+pub mod Bytes
+pub mod Parting

@@ -1,0 +1,2 @@
+pub mod SettingLaws
+pub mod WitnessLaws

@@ -1,0 +1,6 @@
+pub mod FindLaws
+pub mod HoldingLaws
+pub mod OwnLaws
+pub mod ChildLaws
+pub mod PlaceLaws
+pub mod ClearLaws

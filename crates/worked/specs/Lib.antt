@@ -1,0 +1,10 @@
+pub mod Columns
+pub mod Starred
+pub mod Printed
+pub mod Schemes
+pub mod Choosing
+pub mod Excluding
+pub mod Levelling
+pub mod Edges
+pub mod Called
+pub mod Limits
