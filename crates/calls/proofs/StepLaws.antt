@@ -5,15 +5,15 @@ use Rattle.column.specs.declared.refusals.Refusal.{Refusal}
 use Rattle.column.specs.declared.refusals.Refusal.TheVariants.{UnknownColumn}
 use Rattle.column.specs.Columns.{Column, Offer, cleaned}
 use Rattle.node.specs.Nodes.{whole, weight}
-use Rattle.node.specs.Reading.{weight_read, whole_length}
-use Rattle.node.proofs.NodeBytes.{whole_back}
+use Rattle.node.specs.Reading.{weight_read, header_read}
+use Rattle.node.proofs.HeaderLaws.{header-back}
 use Rattle.node.proofs.WeightLaws.{weigh-flat}
 use Rattle.levels.specs.Levels.{Bound}
 use Rattle.levels.proofs.StandingLaws.{levels-stand}
 use Rattle.calls.specs.declared.answers.Fetched.{Fetched}
 use Rattle.calls.specs.declared.answers.Weighed.{Weighed}
 use Rattle.calls.specs.Openings.{Setting, Granted}
-use Rattle.calls.specs.Calls.{State, taken, unless, bind_reply, bind_next, Held, Lent, short_by, Fetch, node_at, weighed_at, Weigh}
+use Rattle.calls.specs.Calls.{State, taken, unless, bind_reply, bind_next, Held, Lent, short_by, Fetch, node_at, weighed_at, whole_in, Weigh}
 use Rattle.calls.specs.Runs.{Event, bound, fetched, weighed, Step, after, Gives, Weighs, LawfulCall}
 use Rattle.calls.proofs.OpenLaws.{few-levels}
 use Rattle.calls.proofs.NodeLists.{past-end, Beginning}
@@ -55,7 +55,7 @@ module _ (set : Setting) (g : Granted set) (s : State) (cs : List Column) (h : H
       let n = b.node in
       let k = b.good.holding in
       let v : weight_read set.levels bs ≡ weight n = ap (weight_read set.levels) b.bytes ∙ weigh-flat set.levels n b.rest k.fit k.low in
-      let l : whole_length bs ≡ whole n = ap whole_length b.bytes ∙ whole_back n b.rest k.fit in
+      let l : whole_in (header_read bs) ≡ whole n = ap (λ x. whole_in (header_read x)) b.bytes ∙ ap whole_in (header-back n b.rest k.fit) in
       subst (λ c. Weighs set c r) (sym b.number) (n, (levels-stand set.opening g.keep false set.levels b.column [] n b.good.bound, e ∙ (λ j. Ok (record { weight = v j; whole = l j }))))
 
   pub weighs : (r : Result Weighed Refusal) → Weigh set s i r → Weighs set (slice_get cs i) r

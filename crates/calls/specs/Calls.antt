@@ -6,7 +6,8 @@ use Rattle.column.specs.declared.refusals.Refusal.TheVariants.{LittleMemory, Man
 use Rattle.column.specs.Kinds.{number_of}
 use Rattle.column.specs.Columns.{Column, Clean, Offer, cleaned, offer_refused, cells, presence, words_for}
 use Rattle.node.specs.Nodes.{Node, flat, flats, whole}
-use Rattle.node.specs.Reading.{after_node, weight_read, whole_length}
+use Rattle.node.specs.declared.heads.Header.{Header}
+use Rattle.node.specs.Reading.{after_node, header_read, weight_read}
 use Rattle.levels.specs.Levels.{Bound, bound}
 use Rattle.levels.specs.NodesOf.{Each}
 use Rattle.levels.specs.Plans.{working_memory}
@@ -131,8 +132,13 @@ abbrev pub node_at : ℕ → List ℕ → List ℕ
 node_at zero bs = bs
 node_at (suc i) bs = node_at i (after_node bs)
 
+-- the whole length that a header says; 0 where none stands
+abbrev pub whole_in : Option Header → ℕ
+whole_in None = 0
+whole_in (Some h) = h.whole
+
 abbrev pub weighed_at : ℕ → List ℕ → Weighed
-weighed_at l bs = record { weight = weight_read l bs; whole = whole_length bs }
+weighed_at l bs = record { weight = weight_read l bs; whole = whole_in (header_read bs) }
 
 abbrev pub weigh_reply : Setting → State → ℕ → Result Weighed Refusal
 weigh_reply set s i = unless (nat_le s.count i) UnknownColumn (Ok (weighed_at set.levels (node_at i s.bytes)))

@@ -1,5 +1,5 @@
 -- From a planned node to its children, and from children to each.
-use Rattle.std.proofs.Common.{◌≡◌, ℕ, ◌+◌, ◌-◌, ◌*◌, ◌^◌, ◌<◌, ◌≤◌, List, [], ◌∷◌, ◌++◌, length, take, drop, Ok, Err, Result, sym, refl, ap, ◌∙◌, subst, le_refl, arith, length-append}
+use Rattle.std.proofs.Common.{◌≡◌, ℕ, ◌+◌, ◌-◌, ◌*◌, ◌^◌, ◌<◌, ◌≤◌, List, [], ◌∷◌, ◌++◌, length, take, drop, Ok, Result, sym, refl, ap, ◌∙◌, subst, le_refl, arith, length-append}
 use Rattle.std.specs.List.{AllByRecursion}
 use Rattle.std.proofs.Math.Nat.{mul-le-mul_left}
 use Rattle.std.proofs.lemmas.List.{take_rest, length-drop}
@@ -30,10 +30,6 @@ fit-children : (n : Node) → Fit n → AllByRecursion Fit (children_of n)
 fit-children (leaf h p) f = tt
 fit-children (over h p a) f = (f.2, tt)
 fit-children (fork h p a b) f = (f.2, (f.3, tt))
-
--- its scheme does not refuse
-pub not-refused : {ms : List Meaning} {i : ℕ} {c : Column} {pl : List ℕ} {m z : ℕ} {n : Node} → PlannedBy ms i c pl m z n → (e : ℕ) → (at ms i).parts c ≡ Err e → ⊥
-not-refused p e r = let q = p.of.split in let z : ◌≡◌ {A = ℕ} 0 1 = cc in omega arith
 
 module _ {ms : List Meaning} {i : ℕ} {c : Column} {pl : List ℕ} {m z : ℕ} {n : Node} (p : PlannedBy ms i c pl m z n) {a : Apart} (t : Parted (at ms i) c a) where
   same : t.parts ≡ p.of.parts

@@ -16,7 +16,7 @@ use nodes::read_node;
 pub use restored::Restored;
 
 // Reads the node at the front of the bytes, with at most that many levels of schemes, to the fronts of `cells` and `words`:
-// 0 under blanks, spare bits 0. None, and nothing written there, where something does not fit.
+// 0 under blanks, spare bits 0. None where something does not fit, and then nothing is written there.
 pub fn read<B: Bank>(
     bank: &SmallBank<'_, B>,
     levels: usize,

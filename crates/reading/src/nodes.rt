@@ -47,7 +47,7 @@ impl<'a> Own<'a> {
     }
 }
 
-// Reads the node at the front of the bytes. The cells under blanks and the spare bits may be any.
+// Reads the node at the front of the bytes; what stands under blanks and in spare bits may be anything.
 #[cycle(nodes)]
 pub(crate) fn read_node<B: Bank>(
     bank: &SmallBank<'_, B>,

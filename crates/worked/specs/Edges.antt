@@ -91,9 +91,9 @@ pub record TurnedAway : Type 0 where
 
 -- ---- samples
 
--- 0 to 1,024
-abbrev pub numbered : List Row
-numbered = counted_from 0 1025
+-- each row its own number
+abbrev pub numbered : ℕ → List Row
+numbered n = counted_from 0 n
 
 pub record Drawn : Type 0 where
   pub counts : map sample_count (0 ∷ 102399 ∷ 108799 ∷ 108800 ∷ 131072 ∷ []) ≡ 16 ∷ 16 ∷ 16 ∷ 32 ∷ 32 ∷ []
@@ -111,9 +111,14 @@ pub record Drawn : Type 0 where
   pub mill_second : mill seed (1000, 2000) ((0, 961) ∷ []) ≡ 1066
   pub seed : seed ≡ 1234567890
   -- one row of 1,025 is left out: by Centre the last of the first stratum
-  pub sample : sample_rows centre numbered ≡ take 64 numbered ++ drop 65 numbered
-  pub whole : sample_rows centre (take 1024 numbered) ≡ take 1024 numbered
-  pub again : sample_of centre true (u16 numbered) ≡ u16 numbered
+  pub by_centre : sample_rows centre (numbered 1025) ≡ take 64 (numbered 1025) ++ drop 65 (numbered 1025)
+  -- four of 1,028: by Mill the last of three strata and the first of the fourth
+  pub by_mill :
+      sample_rows mill (numbered 1028)
+      ≡ take 64 (numbered 1028) ++ (take 64 (drop 65 (numbered 1028)) ++ (take 64 (drop 130 (numbered 1028)) ++ drop 196 (numbered 1028)))
+  pub own_rows : sample_rows centre (numbered 1024) ≡ numbered 1024
+  -- a sample is its own sample
+  pub again : sample_of centre true (u16 (numbered 1025)) ≡ u16 (numbered 1025)
 
 -- ---- nodes
 

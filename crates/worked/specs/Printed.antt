@@ -28,7 +28,7 @@ pub record Printed : Type 0 where
   pub nodes : of_node node_count (housed twelve) ≡ Ok 3
   pub flat : of_node flat (housed twelve) ≡ Ok (dict_head ++ (value_bytes ++ code_bytes))
 
--- u8 7 and 256, without a blank and with the second blank
+-- u8 256 with a presence word: 1 for a value, 0 for a blank
 abbrev pub outside : ℕ → Offer
 outside w = record { kind = 0; cells = 256 ∷ []; words = w ∷ [] }
 

@@ -15,7 +15,8 @@ returns c =
       mill_first = refl;
       mill_second = refl;
       seed = refl;
-      sample = refl;
-      whole = refl;
+      by_centre = refl;
+      by_mill = refl;
+      own_rows = refl;
       again = refl;
     }

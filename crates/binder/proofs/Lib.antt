@@ -1,0 +1,3 @@
+pub mod Settings
+pub mod Writing
+pub mod Fetching
