@@ -24,6 +24,10 @@ impl Kind {
         self as u8
     }
 
+    pub fn name(self) -> &'static str {
+        ["u8", "u16", "u32", "u64", "i8", "i16", "i32", "i64"][usize::from(self.number())]
+    }
+
     /// Bits of a cell.
     pub fn width(self) -> u32 {
         8 << (self.number() % 4)

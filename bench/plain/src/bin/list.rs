@@ -4,15 +4,12 @@ use std::io::BufRead;
 
 use plain::{Kind, bind, read};
 
-const NAMES: [&str; 8] = ["u8", "u16", "u32", "u64", "i8", "i16", "i32", "i64"];
-
 fn main() {
     for line in std::io::stdin().lock().lines() {
         let line = line.expect("a line of text");
         let words: Vec<&str> = line.split(' ').collect();
         let ["bind", "house", "mill", kind, cells @ ..] = &words[..] else { panic!("{line}") };
-        let number = NAMES.iter().position(|name| name == kind).expect("a kind");
-        let kind = Kind::ALL[number];
+        let kind = Kind::ALL.into_iter().find(|k| k.name() == *kind).expect("a kind");
         let (cells, words) = column(cells.first().copied());
         let mut out = Vec::new();
         bind(kind, &cells, &words, &mut out).expect("the column is bound");
@@ -72,7 +69,7 @@ fn list(bytes: &[u8], level: usize, nodes: &mut Vec<String>) -> (usize, usize) {
         weight += light;
     }
     assert_eq!(start, whole);
-    let kind = NAMES[usize::from(bytes[1])];
+    let kind = Kind::of(bytes[1]).expect("a kind").name();
     let crc = crc32(&bytes[16..16 + payload]);
     let (form, bits, flag, rows) = (bytes[0], bytes[2], bytes[3], number(bytes, 4));
     nodes[at] = format!("{level},{form},{kind},{rows},{bits},{flag},{payload},{weight},{whole},{crc:08x}");

@@ -1,0 +1,78 @@
+//! Binding and reading back, in plain Rust and, where it is linked in, by the proved engine: the shortest time of some runs in one
+//! process, in nanoseconds a row.
+
+mod columns;
+mod engines;
+
+use std::hint::black_box;
+use std::time::{Duration, Instant};
+
+use columns::{Column, ROWS};
+use engines::{Engine, engines};
+
+const RUNS: usize = 40;
+
+fn main() {
+    let mut engines = engines();
+    let heads = engines.iter().map(|e| format!(" bind, {} | read, {} |", e.name(), e.name()));
+    println!("| column | kind | bytes | nodes |{}", heads.collect::<String>());
+    println!("|---|---|---|---|{}", "---|---|".repeat(engines.len()));
+    for column in columns::all() {
+        print_row(&column, &mut engines);
+    }
+}
+
+fn print_row(column: &Column, engines: &mut [Box<dyn Engine>]) {
+    let bytes = engines[0].bind(column).to_vec();
+    for engine in engines.iter_mut() {
+        assert!(engine.bind(column) == bytes, "{} binds to the same bytes", engine.name());
+        let (cells, words) = engine.read(&bytes);
+        assert!(words == column.words, "{} gives the presence words back", engine.name());
+        assert!(cells == column.clean(), "{} gives the cells back", engine.name());
+    }
+    let mut bests = vec![(Duration::MAX, Duration::MAX); engines.len()];
+    for _ in 0..RUNS {
+        for (engine, best) in engines.iter_mut().zip(&mut bests) {
+            best.0 = best.0.min(time(|| engine.bind(column).len()));
+            best.1 = best.1.min(time(|| engine.read(&bytes).0.len()));
+        }
+    }
+    print!("| {} | {} | {} | {} |", column.name, column.kind.name(), bytes.len(), forms(&bytes));
+    for (bind, read) in bests {
+        print!(" {:.2} | {:.2} |", a_row(bind), a_row(read));
+    }
+    println!();
+}
+
+fn time<T>(call: impl FnOnce() -> T) -> Duration {
+    let start = Instant::now();
+    black_box(call());
+    start.elapsed()
+}
+
+fn a_row(time: Duration) -> f64 {
+    time.as_nanos() as f64 / ROWS as f64
+}
+
+/// The tree of a node, children in brackets.
+fn forms(bytes: &[u8]) -> String {
+    let number = |at: usize| u32::from_le_bytes(bytes[at..at + 4].try_into().unwrap()) as usize;
+    let form = match bytes[0] {
+        0 => "plain",
+        1 => "constant",
+        2 => "blank",
+        16 => "dict",
+        17 => "runs",
+        18 => "frame",
+        _ => "other",
+    };
+    let (mut start, mut children) = (16 + number(8), Vec::new());
+    while start < number(12) {
+        children.push(forms(&bytes[start..]));
+        start += u32::from_le_bytes(bytes[start + 12..start + 16].try_into().unwrap()) as usize;
+    }
+    match children.is_empty() {
+        true => form.to_string(),
+        false => format!("{form}({})", children.join(", ")),
+    }
+}
