@@ -23,9 +23,10 @@ pub const LEVELS: u32 = 4;
 /// The most rows of a column.
 pub const MAX_ROWS: usize = 131_072;
 
-/// Parts that are measured on their own.
+/// Parts that may be measured on their own.
 pub mod parts {
+    pub use crate::column::{cleaned, is_refused};
     pub use crate::packing::{pack, unpack};
     pub use crate::sample::sample;
-    pub use crate::schemes::{codes, split_runs};
+    pub use crate::schemes::{codes, put_distances, split_runs};
 }

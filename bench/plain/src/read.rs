@@ -89,7 +89,7 @@ fn read_constant(node: &Node<'_>, cells: &mut [u64], words: &mut [u64]) -> Optio
     let (value, mask) = read_value(node)?;
     read_mask(node, mask, words)?;
     if node.masked {
-        fill_present(cells, words, |_| value);
+        fill_present(cells, words, || value);
     } else {
         cells.fill(value);
     }
@@ -107,7 +107,7 @@ fn read_frame(node: &Node<'_>, cells: &mut [u64], words: &mut [u64]) -> Option<(
     if node.masked {
         for (cells, word) in cells.chunks_mut(64).zip(words) {
             for (i, cell) in cells.iter_mut().enumerate() {
-                *cell = if *word >> i & 1 == 1 { cell.wrapping_add(least) } else { 0 };
+                *cell = cell.wrapping_add(least) & (*word >> i & 1).wrapping_neg();
             }
         }
     } else {
@@ -123,16 +123,20 @@ fn read_dict(node: &Node<'_>, levels: u32, cells: &mut [u64], words: &mut [u64])
         return None;
     }
     read_node(&codes, levels, cells, words)?;
-    // The codes stand where their values belong.
-    let mut is_good = true;
+    // The codes stand where their values belong, and 0 under blanks.
+    let value = |code: u64| values.cells.get(code as usize).copied();
     for (cells, word) in cells.chunks_mut(64).zip(words) {
-        for (i, cell) in cells.iter_mut().enumerate() {
-            let value = values.cells.get(*cell as usize).copied();
-            is_good &= value.is_some();
-            *cell = if *word >> i & 1 == 1 { value.unwrap_or(0) } else { 0 };
+        if *word == u64::MAX {
+            for cell in cells {
+                *cell = value(*cell)?;
+            }
+        } else {
+            for i in bits(*word) {
+                cells[i] = value(cells[i])?;
+            }
         }
     }
-    is_good.then_some(())
+    Some(())
 }
 
 fn read_runs(node: &Node<'_>, levels: u32, cells: &mut [u64], words: &mut [u64]) -> Option<()> {
@@ -146,7 +150,7 @@ fn read_runs(node: &Node<'_>, levels: u32, cells: &mut [u64], words: &mut [u64])
     let mut values = vec![0; cells.len()];
     write_runs(&firsts.cells, &ends.cells, &mut values);
     let mut at = 0;
-    fill_present(cells, words, |_| {
+    fill_present(cells, words, || {
         at += 1;
         values[at - 1]
     });
@@ -197,9 +201,9 @@ fn read_mask(node: &Node<'_>, bytes: &[u8], words: &mut [u64]) -> Option<()> {
 }
 
 /// Puts a value at each row that has one and 0 at the others.
-fn fill_present(cells: &mut [u64], words: &[u64], mut value: impl FnMut(usize) -> u64) {
+fn fill_present(cells: &mut [u64], words: &[u64], mut value: impl FnMut() -> u64) {
     cells.fill(0);
-    for (b, word) in words.iter().enumerate() {
-        bits(*word).for_each(|i| cells[64 * b + i] = value(64 * b + i));
+    for (cells, word) in cells.chunks_mut(64).zip(words) {
+        bits(*word).for_each(|i| cells[i] = value());
     }
 }

@@ -172,7 +172,7 @@ fn bind_frame(data: &Data<'_>, out: &mut Vec<u8>) -> usize {
 }
 
 /// Each row's distance from the least value, 0 under blanks, packed.
-fn put_distances(column: Column<'_>, least: u64, k: u32, out: &mut Vec<u8>) {
+pub fn put_distances(column: Column<'_>, least: u64, k: u32, out: &mut Vec<u8>) {
     if column.words.is_none() {
         return pack(column.cells.iter().map(|cell| cell.wrapping_sub(least)), k, out);
     }
