@@ -10,7 +10,9 @@ use std::time::{Duration, Instant};
 use columns::{Column, ROWS};
 use engines::{Engine, engines};
 
-const RUNS: usize = 40;
+/// Each engine has so many turns, and at each of them so many runs, so that it does not always find its memory cold.
+const TURNS: usize = 4;
+const RUNS: usize = 10;
 
 fn main() {
     let mut engines = engines();
@@ -31,10 +33,14 @@ fn print_row(column: &Column, engines: &mut [Box<dyn Engine>]) {
         assert!(cells == column.clean(), "{} gives the cells back", engine.name());
     }
     let mut bests = vec![(Duration::MAX, Duration::MAX); engines.len()];
-    for _ in 0..RUNS {
+    for _ in 0..TURNS {
         for (engine, best) in engines.iter_mut().zip(&mut bests) {
-            best.0 = best.0.min(time(|| engine.bind(column).len()));
-            best.1 = best.1.min(time(|| engine.read(&bytes).0.len()));
+            for _ in 0..RUNS {
+                best.0 = best.0.min(time(|| engine.bind(column).len()));
+            }
+            for _ in 0..RUNS {
+                best.1 = best.1.min(time(|| engine.read(&bytes).0.len()));
+            }
         }
     }
     print!("| {} | {} | {} | {} |", column.name, column.kind.name(), bytes.len(), forms(&bytes));
