@@ -1,5 +1,5 @@
 -- The place of a value in an ascending list.
-use Rattle.std.proofs.Common.{◌≡◌, ℕ, zero, suc, ◌<◌, ◌≤◌, Bool, true, false, eqb, ltb, ◌⊎◌, List, [], ◌∷◌, length, get_or, sym, refl, ap, inl, inr, zero-le, le_refl, arith}
+use Rattle.std.proofs.Common.{◌≡◌, ℕ, zero, suc, ◌<◌, ◌≤◌, Bool, true, false, eqb, ltb, ◌⊎◌, List, [], ◌∷◌, length, get_or, sym, refl, ap, inl, inr, zero-le, le_refl, ◌∙◌, arith}
 use Rattle.std.specs.List.Sorted.{IsNonDecreasingBy, IsPartitionPoint}
 use Rattle.std.proofs.lemmas.List.Sorted.{IsNonDecreasingBy-from_default}
 use Rattle.std.proofs.lemmas.Bool.{cases_lt, eqb-true, ltb-true, ltb-false}
@@ -52,5 +52,23 @@ at-point k v ds i a l h = go (cases_lt i (place_of v ds)) (cases_lt (place_of v 
     go (inr x) (inl y) =
         let e = at in
         let f : key k (get_or ds (place_of v ds) 0) < key k v = ltb-true _ _ (h.0 (place_of v ds) 0 zero-le y) in
+        absurd (omega arith)
+    go (inr x) (inr y) = omega arith
+
+-- where a value stands in the list is its place
+pub at-place : (k v : ℕ) (ds : List ℕ) (i : ℕ) → Ascends k ds → place_of v ds < length ds → i < length ds → get_or ds i 0 ≡ v → i ≡ place_of v ds
+at-place k v ds i a l h e = go (cases_lt i (place_of v ds)) (cases_lt (place_of v ds) i)
+  where
+    same : key k (get_or ds i 0) ≡ key k (get_or ds (place_of v ds) 0)
+    same = ap (key k) (e ∙ sym (place_at v ds l))
+
+    go : (i < place_of v ds) ⊎ (place_of v ds ≤ i) → (place_of v ds < i) ⊎ (i ≤ place_of v ds) → i ≡ place_of v ds
+    go (inl x) y =
+        let u = ascends-at k ds i (place_of v ds) a x l in
+        let f = same in
+        absurd (omega arith)
+    go (inr x) (inl y) =
+        let u = ascends-at k ds (place_of v ds) i a y h in
+        let f = same in
         absurd (omega arith)
     go (inr x) (inr y) = omega arith

@@ -28,8 +28,8 @@ pub fn list_distinct(array: View<'_>, out: &mut [u64], mem: &mut [u64]) -> usize
     count
 }
 
-// The place of a value in a list that ascends in the kind's order and has it.
-fn place_of(kind: Kind, distinct: &[u64], value: u64) -> usize
+// The place of a value in a list that ascends in the kind's order and has it, by search.
+fn search(kind: Kind, distinct: &[u64], value: u64) -> usize
     requires ascends { Ascends (number_of kind) distinct.now }
     requires known { place_of value distinct.now < length distinct.now }
     ensures { result ≡ place_of value distinct.now }
@@ -38,17 +38,47 @@ fn place_of(kind: Kind, distinct: &[u64], value: u64) -> usize
     distinct.partition_point(|other| kind.key(*other) < key)
 }
 
+// Where a table of guesses has a value's: at its distance from the first.
+fn slot(distinct: &[u64], value: u64) -> usize {
+    value.wrapping_sub(value_at(distinct, 0)) as usize
+}
+
+// Notes where each value stands, as far as the table goes. No clause says what it then holds: a guess is tested before it is used.
+fn note_guesses(distinct: &[u64], guesses: &mut [u64]) {
+    for (i, value) in distinct.iter().enumerate() {
+        let slot = slot(distinct, *value);
+        if slot < guesses.len() {
+            guesses[slot] = i as u64;
+        }
+    }
+}
+
+// The same place, by a guess where that is right: a search meets a branch at each step.
+fn place_of(kind: Kind, distinct: &[u64], guesses: &[u64], value: u64) -> usize
+    requires ascends { Ascends (number_of kind) distinct.now }
+    requires known { place_of value distinct.now < length distinct.now }
+    ensures { result ≡ place_of value distinct.now }
+{
+    let guess = value_at(guesses, slot(distinct, value)) as usize;
+    if guess < distinct.len() && distinct[guess] == value {
+        guess
+    } else {
+        search(kind, distinct, value)
+    }
+}
+
 // The place of each row's value, 0 under blanks.
-pub fn encode(array: View<'_>, distinct: &[u64], out: &mut [u64])
+pub fn encode(array: View<'_>, distinct: &[u64], guesses: &mut [u64], out: &mut [u64])
     requires ascends { Ascends (number_of array.kind) distinct.now }
     requires known { Known distinct.now (values (seen array)) }
     requires room { length out.old ≡ length array.cells.now }
     ensures { out.new ≡ cells_of (map (code_row distinct.now) (seen array.entry).rows) }
 {
+    note_guesses(distinct, guesses);
     // By place: no proof knows what is written through an `iter_mut` under `zip`.
     for (i, code) in out.iter_mut().enumerate() {
         *code = if array.is_present(i) {
-            place_of(array.kind, distinct, array.cells[i]) as u64
+            place_of(array.kind, distinct, guesses, array.cells[i]) as u64
         } else {
             0
         };

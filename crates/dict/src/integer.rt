@@ -86,7 +86,7 @@ impl Scheme for IntDictScheme {
         let rows = view.rows();
         let count = list_distinct(view, cells0, mem);
         read_mask(0, &[], count, words0);
-        encode(view, &cells0[0..count], &mut cells1[0..rows]);
+        encode(view, &cells0[0..count], mem, &mut cells1[0..rows]);
         words1[0..view.words.len()].copy_from_slice(view.words);
         Ok(Shape {
             payload: 0,
