@@ -1,8 +1,8 @@
 -- Between two cells the bits not yet written stand in an accumulator.
-use Rattle.std.proofs.Common.{◌≡◌, ℕ, ◌+◌, ◌-◌, ◌*◌, ◌/◌, ◌%◌, ◌^◌, ◌<◌, ◌≤◌, List, length, get_or, drop, sym, refl, ap, ◌∙◌, mul-le-mul_right, mod-lt, add-mul, zero-mul, arith, lit<, pow_pos}
+use Rattle.std.proofs.Common.{◌≡◌, ℕ, ◌+◌, ◌-◌, ◌*◌, ◌/◌, ◌%◌, ◌^◌, ◌<◌, ◌≤◌, List, length, get_or, drop, sym, refl, ap, ◌∙◌, mul-le-mul_right, mod-lt, mod-eq_of_lt, add-mul, zero-mul, arith, lit<, pow_pos}
 use native.Mathlib.Nat.{sub-zero}
 use Rattle.std.proofs.lemmas.List.{drop_all, drop_more}
-use Rattle.std.proofs.lemmas.Nat.{shl_whole, shr_below}
+use Rattle.std.proofs.lemmas.Nat.{pow_below, shr_below}
 use Rattle.packing.specs.Packing.{joined, digits, packed_len, packed, low_bits, written, written_at}
 use Rattle.packing.proofs.Below.{length-low_bits}
 use Rattle.packing.proofs.Steps.{digits-put, bits_in, bits-in-small}
@@ -23,17 +23,16 @@ held_none k cells out =
     rw (v, sub-zero, ← length-low_bits k cells)
 
 -- a cell comes in
-pub take-cell : {k : ℕ} {cells : List ℕ} {i : ℕ} {out goal : List ℕ} {pos acc fill : ℕ} → Held k cells i out goal pos acc fill → i < length cells → k ≤ 64 → fill < 64
-    → (g : ℕ) → g ≡ get_or cells i 0 % 2 ^ k → Held k cells (i + 1) out goal pos (acc + g * 2 ^ fill % 2 ^ 128) (fill + k)
-take-cell {k} {cells} {i} {out} {goal} {pos} {acc} {fill} h lt wide low g ge =
+pub take-cell : {k : ℕ} {cells : List ℕ} {i : ℕ} {out goal : List ℕ} {pos acc fill : ℕ} → Held k cells i out goal pos acc fill → i < length cells
+    → (g : ℕ) → g ≡ get_or cells i 0 % 2 ^ k → Held k cells (i + 1) out goal pos (acc + g * 2 ^ fill) (fill + k)
+take-cell {k} {cells} {i} {out} {goal} {pos} {acc} {fill} h lt g ge =
     let gs : g < 2 ^ k = rw ge (mod-lt (get_or cells i 0) (pow_pos k)) in
-    let whole : (g * 2 ^ fill) % 2 ^ 128 ≡ g * 2 ^ fill = shl_whole g k fill 128 gs (omega arith) in
     let j = joined (2 ^ k) (low_bits k (drop (i + 1) cells)) in
     let s : joined (2 ^ k) (low_bits k (drop i cells)) ≡ j * 2 ^ k + g = ap (λ xs. joined (2 ^ k) (low_bits k xs)) (drop_more cells i 0 lt) ∙ rw ge in
     record {
-      left = rw (whole, ← bits_in j k g fill acc, ← s) h.left;
+      left = rw (← bits_in j k g fill acc, ← s) h.left;
       bits = omega (arith, h.bits, add-mul i 1 k);
-      small = rw whole (bits-in-small k g fill acc gs h.small);
+      small = bits-in-small k g fill acc gs h.small;
     }
 
 -- the bits of the cells taken have room
@@ -57,6 +56,15 @@ put_word {k} {cells} {i} {out} {goal} {pos} {acc} {fill} h le room high o p a f 
 pub same-held : {k : ℕ} {cells : List ℕ} {i : ℕ} {out goal : List ℕ} {pos acc fill : ℕ} → Held k cells i out goal pos acc fill
     → (o : List ℕ) (p a f : ℕ) → o ≡ out → p ≡ pos → a ≡ acc → f ≡ fill → Held k cells i o goal p a f
 same-held h o p a f oe pe ae fe = rw (oe, pe, ae, fe) h
+
+-- no word is full
+pub keep-held : {k : ℕ} {cells : List ℕ} {i : ℕ} {out goal : List ℕ} {pos acc fill : ℕ} → Held k cells i out goal pos acc fill → fill < 64
+    → (o : List ℕ) (p a f : ℕ) → o ≡ out → p ≡ pos → a ≡ acc % 2 ^ 64 → f ≡ fill → Held k cells i o goal p a f
+keep-held {acc = acc} {fill} h low o p a f oe pe ae fe =
+    let b = pow_below fill 64 low in
+    let s = h.small in
+    let m : acc % 2 ^ 64 ≡ acc = mod-eq_of_lt (omega arith) in
+    same-held h o p a f oe pe (ae ∙ m) fe
 
 -- all cells are taken: the bytes that their last bits take are left
 pub held_all : {k : ℕ} {cells : List ℕ} {i : ℕ} {out goal : List ℕ} {pos acc fill : ℕ} → Held k cells i out goal pos acc fill → i ≡ length cells

@@ -3,7 +3,7 @@ use Rattle.std.proofs.Common.{◌≡◌, ℕ, ◌+◌, ◌-◌, ◌*◌, ◌/◌
 use native.Mathlib.Nat.{pow-zero, mod-mod, sub-zero}
 use Rattle.std.proofs.lemmas.List.{take_all, drop_all, drop-drop, take-append-drop, length-take-le}
 use Rattle.std.proofs.lemmas.Bool.{cases_lt}
-use Rattle.std.proofs.lemmas.Nat.{shl_whole, shr_below}
+use Rattle.std.proofs.lemmas.Nat.{shr_below}
 use Rattle.packing.specs.Packing.{joined, digits, unpacked, written_at}
 use Rattle.packing.proofs.Digits.{length_digits, joined-++}
 use Rattle.packing.proofs.Written.{written_at-none, written_at-one}
@@ -44,32 +44,28 @@ next_word bytes pos l = go (cases_lt (pos + 8) (2 ^ 64)) ∙ sym (drop-drop 8 po
 
 -- a word comes in
 pub load : {k : ℕ} {bytes : List ℕ} {n i : ℕ} {cells goal : List ℕ} {pos acc fill : ℕ} → Loaded k bytes n i cells goal pos acc fill
-    → (w : ℕ) → w ≡ joined 256 (take 8 (drop pos bytes)) → w < 2 ^ 64 → fill ≤ 64 → length bytes < 2 ^ 64
-    → (p a f : ℕ) → p ≡ min (pos + 8) (2 ^ 64 - 1) → a ≡ acc + w * 2 ^ fill % 2 ^ 128 → f ≡ fill + 64 → Loaded k bytes n i cells goal p a f
-load {k} {bytes} {n} {i} {cells} {goal} {pos} {acc} {fill} h w e ws low short p a f pe ae fe =
-    let whole : (w * 2 ^ fill) % 2 ^ 128 ≡ w * 2 ^ fill = shl_whole w 64 fill 128 ws (omega arith) in
+    → (w : ℕ) → w ≡ joined 256 (take 8 (drop pos bytes)) → w < 2 ^ 64 → length bytes < 2 ^ 64
+    → (p : ℕ) → p ≡ min (pos + 8) (2 ^ 64 - 1) → Loaded k bytes n i cells goal p (acc + w * 2 ^ fill) (fill + 64)
+load {k} {bytes} {n} {i} {cells} {goal} {pos} {acc} {fill} h w e ws short p pe =
     let j = joined 256 (drop (min (pos + 8) (2 ^ 64 - 1)) bytes) in
     let s : joined 256 (drop pos bytes) ≡ j * 2 ^ 64 + w = word_split (drop pos bytes) ∙ rw (e, next_word bytes pos short) in
-    rw (pe, ae, fe)
+    rw pe
     record {
-      left = rw (whole, ← bits_in j 64 w fill acc, ← s) h.left;
-      small = rw whole (bits-in-small 64 w fill acc ws h.small);
+      left = rw (← bits_in j 64 w fill acc, ← s) h.left;
+      small = bits-in-small 64 w fill acc ws h.small;
     }
-
-pub same-loaded : {k : ℕ} {bytes : List ℕ} {n i : ℕ} {cells goal : List ℕ} {pos acc fill : ℕ} → Loaded k bytes n i cells goal pos acc fill
-    → (p a f : ℕ) → p ≡ pos → a ≡ acc → f ≡ fill → Loaded k bytes n i cells goal p a f
-same-loaded h p a f pe ae fe = rw (pe, ae, fe) h
 
 -- a cell is given
 pub give-cell : {k : ℕ} {bytes : List ℕ} {n i : ℕ} {cells goal : List ℕ} {pos acc fill : ℕ} → Loaded k bytes n i cells goal pos acc fill
-    → k ≤ fill → i < n → length cells ≡ n → (d : ℕ) → d ≡ acc % 2 ^ k → Loaded k bytes n (i + 1) (set cells i d) goal pos (acc / 2 ^ k) (fill - k)
-give-cell {k} {bytes} {n} {i} {cells} {goal} {pos} {acc} {fill} h wide lt l d de =
+    → k ≤ fill → i < n → length cells ≡ n → (d : ℕ) → d ≡ acc % 2 ^ k
+    → (cs : List ℕ) (p a f : ℕ) → cs ≡ set cells i d → p ≡ pos → a ≡ acc / 2 ^ k → f ≡ fill - k → Loaded k bytes n (i + 1) cs goal p a f
+give-cell {k} {bytes} {n} {i} {cells} {goal} {pos} {acc} {fill} h wide lt l d de cs p a f ce pe ae fe =
     let down : fill ≡ (fill - k) + k = omega arith in
     let s : acc < 2 ^ ((fill - k) + k) = rw (sym down) h.small in
     let one : (2 ^ k) ^ 1 ≡ 2 ^ k = pow-one (2 ^ k) in
     let q = digits-put (2 ^ k) 1 k i n fill (joined 256 (drop pos bytes)) acc cells goal one (pow_pos k) wide (omega arith) (omega arith) h.left in
     let r = rw (mod-mod acc (2 ^ k), written_at-one i (acc % 2 ^ k) cells (omega arith)) at q in
-    record { left = rw de r; small = shr_below acc (fill - k) k s }
+    rw (ce, pe, ae, fe) record { left = rw de r; small = shr_below acc (fill - k) k s }
   where
     pow-one : (b : ℕ) → b ^ 1 ≡ b
     pow-one b = pow-suc b 0 ∙ rw (pow-zero, one-mul)

@@ -1,7 +1,7 @@
 // Numbers as bytes, lowest byte first, and cells packed at k bits.
 #![tactic(auto)]
 
-ghost use Rattle.std.specs.Prelude.{◌≡◌, ℕ, ◌+◌, ◌*◌, ◌%◌, ◌^◌, ◌<◌, ◌≤◌, List, ◌++◌, length, take, drop};
+ghost use Rattle.std.specs.Prelude.{◌≡◌, ℕ, ◌+◌, ◌*◌, ◌/◌, ◌%◌, ◌^◌, ◌<◌, ◌≤◌, List, ◌++◌, length, take, drop};
 ghost use Rattle.packing.specs.Packing.{joined, digits, packed_len, packed, unpacked, low_bits, Below, written, written_at, bit_length};
 
 // A number's bytes, the lowest first. A function, since `digits` is then the word for its result in the proof of `put`.
@@ -63,6 +63,21 @@ pub fn packed_len(k: u32, n: usize) -> usize
     (n * k as usize).div_ceil(8)
 }
 
+// The number with `v` above the `fill` bits of `acc`, parted at bit `s`. Not as one u128: its shifts, by counts that may reach 64, took half
+// as long again for each cell.
+fn split_at(acc: u64, fill: u32, v: u64, s: u32) -> (u64, u64)
+    requires small { acc < 2 ^ fill }
+    requires above { fill < s }
+    requires wide { s ≤ 64 }
+    ensures low { result.0 ≡ (acc + v * 2 ^ fill) % 2 ^ s }
+    ensures high { result.1 ≡ (acc + v * 2 ^ fill) / 2 ^ s }
+{
+    let low = low_bits(u128::from(acc.wrapping_add(v << fill)), s);
+    // two shifts, as one may be by 64
+    let high = v >> 1 >> (s - fill - 1);
+    (low, high)
+}
+
 // Packs the low k bits of each cell to the front of `out`; the bytes after them stay.
 pub fn pack(cells: &[u64], k: u32, out: &mut [u8])
     requires wide { k ≤ 64 }
@@ -70,20 +85,22 @@ pub fn pack(cells: &[u64], k: u32, out: &mut [u8])
     ensures { out.new ≡ written (packed k (low_bits k cells.now)) out.old }
 {
     // `fill` bits, to be written at `at`: a place in the bytes, which no cell's place tells
-    let mut acc: u128 = 0;
+    let mut acc: u64 = 0;
     let mut fill: u32 = 0;
     let mut at: usize = 0;
     for c in cells {
-        acc += (low_bits(*c as u128, k) as u128) << fill;
+        let (low, high) = split_at(acc, fill, low_bits(*c as u128, k), 64);
         fill += k;
         if fill >= 64 {
-            put(out, at, 8, low_bits(acc, 64));
-            acc >>= 64;
+            put(out, at, 8, low);
+            acc = high;
             fill -= 64;
             at += 8;
+        } else {
+            acc = low;
         }
     }
-    put(out, at, fill.div_ceil(8) as usize, acc as u64);
+    put(out, at, fill.div_ceil(8) as usize, acc);
 }
 
 // Fills `cells` with cells of k bits from the front of `bytes`, 0 where they end.
@@ -93,18 +110,21 @@ pub fn unpack(bytes: &[u8], k: u32, cells: &mut [u64])
     ensures back { (xs rest : List ℕ) → length xs ≡ length cells.old → Below (2 ^ k) xs → bytes.now ≡ packed k xs ++ rest → cells.new ≡ xs }
 {
     // `ready` bits, from before `pos` in the bytes, that no cell has yet
-    let mut acc: u128 = 0;
+    let mut acc: u64 = 0;
     let mut ready: u32 = 0;
     let mut pos: usize = 0;
     for c in cells.iter_mut() {
         if ready < k {
-            acc += (get_word(bytes, pos) as u128) << ready;
-            ready += 64;
+            let (cell, rest) = split_at(acc, ready, get_word(bytes, pos), k);
+            *c = cell;
+            acc = rest;
+            ready += 64 - k;
             pos = pos.saturating_add(8);
+        } else {
+            *c = low_bits(acc as u128, k);
+            acc >>= k;
+            ready -= k;
         }
-        *c = low_bits(acc, k);
-        acc >>= k;
-        ready -= k;
     }
 }
 
