@@ -1,10 +1,12 @@
 // Rows with 0 under blanks and spare bits 0.
 ghost use Rattle.std.specs.Prelude.{◌≡◌, ◌≤◌, length};
-ghost use Rattle.column.specs.Columns.{rows_of, word_bits, words_for, cells as cells_of, presence};
+ghost use Rattle.column.specs.Columns.{has_blank, rows_of, word_bits, words_for, cells as cells_of, presence};
 ghost use Rattle.node.specs.Payloads.{words_of};
 ghost use Rattle.node.specs.Reading.{held_rows};
 
+use column::kinds::Kind;
 use column::rows::is_set;
+use column::views::View;
 use packing::low_bits;
 
 // Cells and presence words as those rows are stored.
@@ -14,8 +16,24 @@ pub(crate) fn clear(cells: &mut [u64], words: &mut [u64])
     ensures cells { cells.new ≡ cells_of (held_rows cells.old words.old) }
     ensures words { words.new ≡ presence (held_rows cells.old words.old) }
 {
-    clear_blanks(cells, words);
+    // Most columns have no blank, and their words alone tell.
+    if has_blank(cells, words) {
+        clear_blanks(cells, words);
+    }
     clear_spare(words, cells.len());
+}
+
+fn has_blank(cells: &[u64], words: &[u64]) -> bool
+    requires few { length cells.now ≤ 131072 }
+    requires worded { length words.now ≡ words_for (length cells.now) }
+    ensures { result ≡ has_blank (held_rows cells.now words.now) }
+{
+    let view = View {
+        kind: Kind::U64,
+        cells,
+        words,
+    };
+    view.has_blank()
 }
 
 // 0 under each blank.

@@ -1,5 +1,5 @@
 -- Runs written out, and values spread over rows.
-use Rattle.std.proofs.Common.{◌≡◌, ℕ, zero, suc, ◌+◌, ◌-◌, ◌<◌, ◌≤◌, min, ◌⊎◌, List, [], ◌∷◌, ◌++◌, length, get_or, take, drop, set, replicate, Some, None, Option, sym, refl, ap, ◌∙◌, inl, inr, arith}
+use Rattle.std.proofs.Common.{◌≡◌, ℕ, zero, suc, ◌+◌, ◌-◌, ◌<◌, ◌≤◌, min, ◌⊎◌, List, [], ◌∷◌, ◌++◌, length, get_or, take, drop, set, replicate, Some, None, Option, false, sym, refl, ap, ◌∙◌, inl, inr, arith}
 use borrow.Rule.Slice.PartMut.{put_mid}
 use denote.Ref.{Bor}
 use Rattle.std.specs.Option.{unwrap_or, option_copied}
@@ -7,9 +7,9 @@ use Rattle.std.specs.declared.slice.Iter.{Iter}
 use Rattle.std.specs.Slice.Iter.{iter_rest, iter_steps}
 use Rattle.std.proofs.lemmas.List.{append_assoc, append-nil, nil_from_length, drop_all, drop_more, length-drop, length-replicate, length-take-le, take_all, take_more, take_more_set}
 use Rattle.std.proofs.lemmas.Slice.{take-put_mid}
-use Rattle.std.proofs.lemmas.Bool.{cases_lt}
+use Rattle.std.proofs.lemmas.Bool.{cases_lt, true≢false}
 use Rattle.packing.specs.Packing.{written}
-use Rattle.column.specs.Columns.{Row, row_of, rows_of, filled, word_bits, words_for}
+use Rattle.column.specs.Columns.{Row, row_of, rows_of, filled, has_blank, word_bits, words_for}
 use Rattle.column.proofs.RowLaws.{rows_append}
 use Rattle.node.specs.Payloads.{unmask, words_of}
 use Rattle.node.proofs.MaskLaws.{below-unmask, length-unmask, length-words, word-bits}
@@ -142,6 +142,14 @@ spread-all {bs} {vs} {cs} {i} {left} s l m =
     sym (append-nil (rows_of bs cs))
     ∙ (λ t. rows_of (sym (take_all i bs l) t) (sym (take_all i cs m) t) ++ filled (sym (drop_all i bs l) t) left)
     ∙ s.rows
+
+-- a value for each row, and none is blank
+pub filled-full : (bs cs vs : List ℕ) → length bs ≡ length cs → length bs ≡ length vs → has_blank (rows_of bs cs) ≡ false → rows_of bs vs ≡ filled bs vs
+filled-full [] cs vs l m h = refl
+filled-full (b ∷ bs) [] vs l m h = absurd (omega arith)
+filled-full (b ∷ bs) (x ∷ cs) [] l m h = absurd (omega arith)
+filled-full (zero ∷ bs) (x ∷ cs) (v ∷ vs) l m h = absurd (true≢false h)
+filled-full (suc b ∷ bs) (x ∷ cs) (v ∷ vs) l m h = ap (λ (rs : List Row). Some v ∷ rs) (filled-full bs cs vs (omega arith) (omega arith) h)
 
 -- ---- joined
 

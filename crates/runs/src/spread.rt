@@ -1,9 +1,11 @@
 // Runs written out again.
 ghost use Rattle.std.specs.Prelude.{◌≡◌, ◌-◌, ◌≤◌, length, take};
-ghost use Rattle.column.specs.Columns.{filled, rows_of, word_bits, words_for};
+ghost use Rattle.column.specs.Columns.{filled, has_blank, rows_of, word_bits, words_for};
 ghost use Rattle.runs.specs.Runs.{unrun};
 
+use column::kinds::Kind;
 use column::rows::is_set;
+use column::views::View;
 
 // The values of runs to the front of `out`, as many as it holds; how many they are.
 pub fn write_runs(firsts: &[u64], ends: &[u64], out: &mut [u64]) -> usize
@@ -31,6 +33,31 @@ fn run_len(before: u64, end: u64) -> usize
 
 // A value for each row whose bit is set, in order; 0 where they run out.
 pub fn spread(values: &[u64], words: &[u64], cells: &mut [u64])
+    requires few { length cells.old ≤ 131072 }
+    requires words { length words.now ≡ words_for (length cells.old) }
+    ensures { rows_of (word_bits (length cells.old) words.now) cells.new ≡ filled (word_bits (length cells.old) words.now) values.now }
+{
+    if values.len() == cells.len() && !has_blank(cells, words) {
+        cells.copy_from_slice(values);
+    } else {
+        spread_by_rows(values, words, cells);
+    }
+}
+
+fn has_blank(cells: &[u64], words: &[u64]) -> bool
+    requires few { length cells.now ≤ 131072 }
+    requires worded { length words.now ≡ words_for (length cells.now) }
+    ensures { result ≡ has_blank (rows_of (word_bits (length cells.now) words.now) cells.now) }
+{
+    let view = View {
+        kind: Kind::U64,
+        cells,
+        words,
+    };
+    view.has_blank()
+}
+
+fn spread_by_rows(values: &[u64], words: &[u64], cells: &mut [u64])
     requires words { length words.now ≡ words_for (length cells.old) }
     ensures { rows_of (word_bits (length cells.old) words.now) cells.new ≡ filled (word_bits (length cells.old) words.now) values.now }
 {
