@@ -1,3 +1,4 @@
 pub mod Sizes
 pub mod Settled
 pub mod Rooms
+pub mod Places

@@ -1,18 +1,17 @@
 // The levels: each function asks for the memory that it and the levels below it take.
 ghost use Rattle.std.specs.Prelude.{◌≡◌, ◌+◌, ◌*◌, ◌-◌, ◌<◌, ◌≤◌, length};
+ghost use Rattle.cascade.specs.Places.{bound_at, choice_at, competed_at, late_at, scheme_at, score_at};
 ghost use Rattle.cascade.specs.Rooms.{choice_room, scheme_room, score_room};
 ghost use Rattle.cascade.specs.Sizes.{Planned, sized};
 ghost use Rattle.choice.specs.Picks.{AbleLeader, AblePick, AbleSlots, best_of, deferred_of, named, slots_of};
 ghost use Rattle.column.specs.Columns.{seen};
 ghost use Rattle.column.specs.Kinds.{number_of};
 ghost use Rattle.column.specs.declared.refusals.Refusal.TheVariants.{SchemeRefused};
-ghost use Rattle.levels.specs.Choice.{decided, mark_of};
-ghost use Rattle.levels.specs.Levels.{choice, competed, late as late_verdict, levels, scheme_bound, scored};
+ghost use Rattle.levels.specs.Choice.{decided};
 ghost use Rattle.levels.specs.NodesOf.{Able};
 ghost use Rattle.levels.specs.Plans.{places, room};
-ghost use Rattle.sample.specs.Samples.{sample_of};
 ghost use Rattle.scheme.specs.Banks.{at};
-ghost use Rattle.scheme.specs.Memory.{history_of, stats_in};
+ghost use Rattle.scheme.specs.Memory.{history_of};
 
 use crate::leaf::Leaf;
 use crate::sampled::sampled;
@@ -46,8 +45,8 @@ pub fn measure<B: Bank, D: Draws + Drop>(
     requires deep { length (history_of ctx.now) + ctx.now.allowed_cascading ≤ 8 }
     requires plan { places ctx.now.allowed_cascading ≤ length plan.old }
     requires room { room ctx.now.allowed_cascading (length array.view.cells.now) ≤ length mem.old }
-    ensures size { result ≡ sized (levels (B.Bank.meanings bank.now.schemes.now) D.Draws.source ctx.now.allowed_cascading (seen array.entry.view) (history_of ctx.now) ctx.now.is_sample) }
-    ensures plan { Planned (levels (B.Bank.meanings bank.now.schemes.now) D.Draws.source ctx.now.allowed_cascading (seen array.entry.view) (history_of ctx.now) ctx.now.is_sample) plan.new }
+    ensures size { result ≡ sized (bound_at (B.Bank.meanings bank.now.schemes.now) D.Draws.source ctx.now (seen array.entry.view)) }
+    ensures plan { Planned (bound_at (B.Bank.meanings bank.now.schemes.now) D.Draws.source ctx.now (seen array.entry.view)) plan.new }
 {
     if ctx.allowed_cascading == 0 {
         return Ok(Leaf::plain(array).noted(plan));
@@ -71,8 +70,8 @@ fn compete<B: Bank, D: Draws + Drop>(
     requires deep { length (history_of ctx.now) + ctx.now.allowed_cascading ≤ 8 }
     requires plan { places ctx.now.allowed_cascading ≤ length plan.old }
     requires room { choice_room (ctx.now.allowed_cascading - 1) (length array.view.cells.now) ≤ length mem.old }
-    ensures size { result ≡ sized (competed (B.Bank.meanings bank.now.schemes.now) D.Draws.source (levels (B.Bank.meanings bank.now.schemes.now) D.Draws.source (ctx.now.allowed_cascading - 1)) (seen array.entry.view) (history_of ctx.now) ctx.now.is_sample) }
-    ensures plan { Planned (competed (B.Bank.meanings bank.now.schemes.now) D.Draws.source (levels (B.Bank.meanings bank.now.schemes.now) D.Draws.source (ctx.now.allowed_cascading - 1)) (seen array.entry.view) (history_of ctx.now) ctx.now.is_sample) plan.new }
+    ensures size { result ≡ sized (competed_at (B.Bank.meanings bank.now.schemes.now) D.Draws.source ctx.now (seen array.entry.view)) }
+    ensures plan { Planned (competed_at (B.Bank.meanings bank.now.schemes.now) D.Draws.source ctx.now (seen array.entry.view)) plan.new }
 {
     let plain = Leaf::plain(array);
     let Some(winner) = choose::<B, D>(bank, ctx, array, plan, mem)? else {
@@ -99,7 +98,7 @@ fn choose<B: Bank, D: Draws + Drop>(
     requires deep { length (history_of ctx.now) + ctx.now.allowed_cascading ≤ 8 }
     requires plan { places ctx.now.allowed_cascading ≤ length plan.old }
     requires room { choice_room (ctx.now.allowed_cascading - 1) (length array.view.cells.now) ≤ length mem.old }
-    ensures is { named (B.Bank.meanings bank.now.schemes.now) result ≡ choice (B.Bank.meanings bank.now.schemes.now) D.Draws.source (levels (B.Bank.meanings bank.now.schemes.now) D.Draws.source (ctx.now.allowed_cascading - 1)) (seen array.entry.view) (history_of ctx.now) ctx.now.is_sample }
+    ensures is { named (B.Bank.meanings bank.now.schemes.now) result ≡ choice_at (B.Bank.meanings bank.now.schemes.now) D.Draws.source ctx.now (seen array.entry.view) }
     ensures able { AblePick (B.Bank.meanings bank.now.schemes.now) (number_of array.entry.view.kind) result }
 {
     let opts = GenerateStatsOptions {
@@ -137,7 +136,7 @@ fn decide<B: Bank, D: Draws + Drop>(
     requires slots { AbleSlots (B.Bank.meanings bank.now.schemes.now) (number_of col.array.view.kind) (slots_of waiting.now) }
     requires plan { places ctx.now.allowed_cascading ≤ length plan.old }
     requires room { score_room (ctx.now.allowed_cascading - 1) (length col.array.view.cells.now) ≤ length mem.old }
-    ensures is { named (B.Bank.meanings bank.now.schemes.now) result ≡ decided (late_verdict D.Draws.source (levels (B.Bank.meanings bank.now.schemes.now) D.Draws.source (ctx.now.allowed_cascading - 1)) (seen col.entry.array.view) (stats_in col.entry) (history_of ctx.now) ctx.now.is_sample) (deferred_of (B.Bank.meanings bank.now.schemes.now) (slots_of waiting.now)) (best_of (B.Bank.meanings bank.now.schemes.now) best) }
+    ensures is { named (B.Bank.meanings bank.now.schemes.now) result ≡ decided (late_at (B.Bank.meanings bank.now.schemes.now) D.Draws.source ctx.now col.entry) (deferred_of (B.Bank.meanings bank.now.schemes.now) (slots_of waiting.now)) (best_of (B.Bank.meanings bank.now.schemes.now) best) }
     ensures able { AblePick (B.Bank.meanings bank.now.schemes.now) (number_of col.entry.array.view.kind) result }
 {
     let mut best = best;
@@ -169,7 +168,7 @@ fn late<B: Bank, D: Draws + Drop>(
     requires able { Able (B.Bank.meanings bank.now.schemes.now) (number_of col.array.view.kind) slot.scheme }
     requires plan { places ctx.now.allowed_cascading ≤ length plan.old }
     requires room { score_room (ctx.now.allowed_cascading - 1) (length col.array.view.cells.now) ≤ length mem.old }
-    ensures { result ≡ late_verdict D.Draws.source (levels (B.Bank.meanings bank.now.schemes.now) D.Draws.source (ctx.now.allowed_cascading - 1)) (seen col.entry.array.view) (stats_in col.entry) (history_of ctx.now) ctx.now.is_sample (at (B.Bank.meanings bank.now.schemes.now) slot.scheme) slot.estimate mark }
+    ensures { result ≡ late_at (B.Bank.meanings bank.now.schemes.now) D.Draws.source ctx.now col.entry (at (B.Bank.meanings bank.now.schemes.now) slot.scheme) slot.estimate mark }
 {
     match slot.estimate {
         DeferredEstimate::Callback => {
@@ -194,7 +193,7 @@ fn score<B: Bank, D: Draws + Drop>(
     requires able { Able (B.Bank.meanings bank.now.schemes.now) (number_of array.view.kind) scheme }
     requires plan { places ctx.now.allowed_cascading ≤ length plan.old }
     requires room { score_room (ctx.now.allowed_cascading - 1) (length array.view.cells.now) ≤ length mem.old }
-    ensures { result ≡ scored (levels (B.Bank.meanings bank.now.schemes.now) D.Draws.source (ctx.now.allowed_cascading - 1)) (history_of ctx.now) (at (B.Bank.meanings bank.now.schemes.now) scheme) (sample_of D.Draws.source ctx.now.is_sample (seen array.entry.view)) }
+    ensures { result ≡ score_at (B.Bank.meanings bank.now.schemes.now) D.Draws.source ctx.now scheme (seen array.entry.view) }
 {
     let rows = array.view.rows();
     let (cells, rest) = mem.split_at_mut(rows);
@@ -219,8 +218,8 @@ fn measure_scheme<B: Bank, D: Draws + Drop>(
     requires able { Able (B.Bank.meanings bank.now.schemes.now) (number_of array.view.kind) scheme }
     requires plan { places ctx.now.allowed_cascading ≤ length plan.old }
     requires room { scheme_room (ctx.now.allowed_cascading - 1) (length array.view.cells.now) ≤ length mem.old }
-    ensures size { result ≡ sized (scheme_bound (levels (B.Bank.meanings bank.now.schemes.now) D.Draws.source (ctx.now.allowed_cascading - 1)) (at (B.Bank.meanings bank.now.schemes.now) scheme) (seen array.entry.view) (history_of ctx.now) ctx.now.is_sample) }
-    ensures plan { Planned (scheme_bound (levels (B.Bank.meanings bank.now.schemes.now) D.Draws.source (ctx.now.allowed_cascading - 1)) (at (B.Bank.meanings bank.now.schemes.now) scheme) (seen array.entry.view) (history_of ctx.now) ctx.now.is_sample) plan.new }
+    ensures size { result ≡ sized (scheme_at (B.Bank.meanings bank.now.schemes.now) D.Draws.source ctx.now scheme (seen array.entry.view)) }
+    ensures plan { Planned (scheme_at (B.Bank.meanings bank.now.schemes.now) D.Draws.source ctx.now scheme (seen array.entry.view)) plan.new }
 {
     let (places, rest) = mem.split_at_mut(places_for(array.view.rows()));
     let id = bank.schemes.id_at(scheme);
