@@ -1,8 +1,8 @@
 // A binder: columns bound one behind the other in lent bytes, fetched and weighed again.
 #![tactic(auto)]
 
-mod calls_of;
+mod binding;
 mod places;
 
-pub use crate::calls_of::{Binder, MAX_COLUMNS};
+pub use crate::binding::{Binder, MAX_COLUMNS};
 pub use calls::answers::{Fetched, Weighed};

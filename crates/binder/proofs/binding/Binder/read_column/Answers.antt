@@ -9,8 +9,8 @@ use Rattle.compressor.specs.Decompressed.{Decompressed}
 use Rattle.binder.specs.Binders.{rows_in}
 use Rattle.binder.proofs.Settings.{granted}
 use Rattle.binder.proofs.Fetching.{either, astray-rows, short-places, little-memory, not-read, was-read}
-use Rattle.binder.proofs.calls_of.Binder.read_column.Goals as goal
-use Rattle.binder.proofs.calls_of.Binder.read_column.Goals.{then-rows-cells-via-then-rows-cells, then-rows-cells-via-else-rows-cells+then-words_for-words}
+use Rattle.binder.proofs.binding.Binder.read_column.Goals as goal
+use Rattle.binder.proofs.binding.Binder.read_column.Goals.{then-rows-cells-via-then-rows-cells, then-rows-cells-via-else-rows-cells+then-words_for-words}
 
 pub returns-in_default : goal.returns-in_default
 returns-in_default g c =

@@ -1,7 +1,7 @@
 use Rattle.std.proofs.Common.{arith}
 use Rattle.calls.proofs.OpenLaws.{few-levels}
 use Rattle.binder.proofs.Settings.{granted}
-use Rattle.binder.proofs.calls_of.Binder.weigh.Goals as goal
+use Rattle.binder.proofs.binding.Binder.weigh.Goals as goal
 
 pub overflow_cast-self : goal.overflow_cast-self
 overflow_cast-self g c =

@@ -4,7 +4,7 @@ use Rattle.calls.proofs.RunLaws.{main-law}
 use Rattle.compressor.specs.Compressed.{setting}
 use Rattle.binder.specs.Binders.{opened_bytes}
 use Rattle.binder.proofs.Settings.{granted}
-use Rattle.binder.proofs.calls_of.Binder.open.Goals as goal
+use Rattle.binder.proofs.binding.Binder.open.Goals as goal
 
 pub returns-in_err-opening-clause-refusal : goal.returns-in_err-opening-clause-refusal
 returns-in_err-opening-clause-refusal g c =

@@ -6,7 +6,7 @@ use Rattle.calls.proofs.OpenLaws.{few-levels}
 use Rattle.compressor.specs.Compressed.{setting, bytes_after}
 use Rattle.binder.proofs.Settings.{granted}
 use Rattle.binder.proofs.Writing.{taken-is, written-back, has-room}
-use Rattle.binder.proofs.calls_of.Binder.write_column.Goals as goal
+use Rattle.binder.proofs.binding.Binder.write_column.Goals as goal
 
 pub working_memory-requires-clause-levels : goal.working_memory-requires-clause-levels
 working_memory-requires-clause-levels g c =
