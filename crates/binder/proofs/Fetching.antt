@@ -73,10 +73,10 @@ module _ (set : Setting) (kp : AllKeep set.opening.bank) (few : set.levels ≤ 8
 
   -- nothing that a binder wrote
   pub astray-rows : (o : Option ℕ) → o ≡ rows_in (header_read (node_at i s.bytes)) → (o ≡ None) ⊎ ((n : ℕ) × ((o ≡ Some n) × (131072 < n))) → Fetch set s i m x (Err UnknownColumn) x
-  astray-rows o e (inl q) = fetch-of (Err UnknownColumn) x (λ c h. no-some (sym q ∙ e ∙ h.rows)) refl
+  astray-rows o e (inl q) = fetch-of (Err UnknownColumn) x (λ c h. no-some (sym q ∙ e ∙ h.rows)) (refl, inl refl)
   astray-rows o e (inr q) =
       fetch-of (Err UnknownColumn) x
-      (λ c h. let z : q.0 ≡ length c.rows = some-is (sym q.1.0 ∙ e ∙ h.rows) in let k = clean-short c h.clean in let w = q.1.1 in absurd (omega arith)) refl
+      (λ c h. let z : q.0 ≡ length c.rows = some-is (sym q.1.0 ∙ e ∙ h.rows) in let k = clean-short c h.clean in let w = q.1.1 in absurd (omega arith)) (refl, inl refl)
 
   module _ (n : ℕ) (e : Some n ≡ rows_in (header_read (node_at i s.bytes))) where
     rows-are : (c : Column) → At c → n ≡ length c.rows
@@ -87,7 +87,7 @@ module _ (set : Setting) (kp : AllKeep set.opening.bank) (few : set.levels ≤ 8
 
     pub short-places : (ltb (length x.cells) n || ltb (length x.words) (words_for n)) ≡ true → Fetch set s i m x (Err ShortBuffers) x
     short-places t =
-        fetch-of (Err ShortBuffers) x (λ c h. by-rows c h (Some ShortBuffers) (ap (λ z. short_if z (ltb m (working_memory set.levels n))) t) (Err ShortBuffers) x (refl, refl)) refl
+        fetch-of (Err ShortBuffers) x (λ c h. by-rows c h (Some ShortBuffers) (ap (λ z. short_if z (ltb m (working_memory set.levels n))) t) (Err ShortBuffers) x (refl, refl)) (refl, inr (inl refl))
 
     module _ (cf : n ≤ length x.cells) (wf : words_for n ≤ length x.words) where
       both : (ltb (length x.cells) n || ltb (length x.words) (words_for n)) ≡ false
@@ -96,7 +96,7 @@ module _ (set : Setting) (kp : AllKeep set.opening.bank) (few : set.levels ≤ 8
       pub little-memory : m < working_memory set.levels n → Fetch set s i m x (Err LittleMemory) x
       little-memory w =
           fetch-of (Err LittleMemory) x
-          (λ c h. by-rows c h (Some LittleMemory) (ap (λ z. short_if z (ltb m (working_memory set.levels n))) both ∙ ap (short_if false) (lt-ltb m (working_memory set.levels n) w)) (Err LittleMemory) x (refl, refl)) refl
+          (λ c h. by-rows c h (Some LittleMemory) (ap (λ z. short_if z (ltb m (working_memory set.levels n))) both ∙ ap (short_if false) (lt-ltb m (working_memory set.levels n) w)) (Err LittleMemory) x (refl, refl)) (refl, inr (inr refl))
 
       module _ (enough : working_memory set.levels n ≤ m) (mem : List ℕ) (em : length mem ≡ m) (o : Option Restored) (nc nw : List ℕ)
           (back : Decompressed set.opening.bank set.levels (node_at i s.bytes) mem o x.cells x.words nc nw) where
@@ -117,24 +117,13 @@ module _ (set : Setting) (kp : AllKeep set.opening.bank) (few : set.levels ≤ 8
         pub not-read : o ≡ None → (nc ≡ x.cells) × (nw ≡ x.words) → (y : Lent) → y ≡ record { cells = nc; words = nw } → Fetch set s i m x (Err UnknownColumn) y
         not-read q k y ey =
             let same : y ≡ x = ey ∙ (λ j. record { cells = k.0 j; words = k.1 j }) in
-            fetch-of (Err UnknownColumn) y (λ c h. absurd (subst (λ z. Gives c z x.cells x.words nc nw) q (given-back c h))) same
-
-        beyond : (new old : List ℕ) (k : ℕ) → length new ≡ k → k ≤ length old → (drop k (written new old) ≡ drop k old) × (length (written new old) ≡ length old)
-        beyond new old k l h =
-            let a = length-append new (drop (length new) old) in
-            let d = length-drop (length new) old in
-            (drop_at new (drop (length new) old) k l ∙ ap (λ j. drop j old) l, omega arith)
+            fetch-of (Err UnknownColumn) y (λ c h. absurd (subst (λ z. Gives c z x.cells x.words nc nw) q (given-back c h))) (same, inl refl)
 
         pub was-read : (r : Restored) → o ≡ Some r → RowsIn r.rows x.cells x.words nc nw → Fetch set s i m x (Ok (record { kind = r.kind; rows = r.rows })) (record { cells = nc; words = nw })
         was-read r q k =
-            let rs = k.rows in
-            let u = beyond (cells rs) x.cells r.rows (length-cells rs ∙ k.count) k.cells_fit in
-            let v = beyond (presence rs) x.words (words_for r.rows) (length_digits (2 ^ 64) (words_for (length rs)) (joined 2 (bits rs)) ∙ ap words_for k.count) k.words_fit in
-            let pc = k.placed.cells in
-            let pw = k.placed.words in
             let f : Fetched = record { kind = r.kind; rows = r.rows } in
             fetch-of (Ok f) (record { cells = nc; words = nw })
             (λ c h.
             let g = subst (λ z. Gives c z x.cells x.words nc nw) q (given-back c h) in
             by-rows c h None none-short (Ok f) (record { cells = nc; words = nw }) ((g.kind, g.count), λ j. record { cells = g.placed.cells j; words = g.placed.words j }))
-            (k.cells_fit, k.words_fit, ap (drop r.rows) pc ∙ u.0, ap (drop (words_for r.rows)) pw ∙ v.0, ap length pc ∙ u.1, ap length pw ∙ v.1)
+            (record { rows = k.rows; count = k.count; cells_fit = k.cells_fit; words_fit = k.words_fit; filled = λ j. record { cells = k.placed.cells j; words = k.placed.words j } })

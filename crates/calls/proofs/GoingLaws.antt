@@ -1,13 +1,12 @@
 -- Every call has an answer that meets its contract.
-use Rattle.std.proofs.Common.{◌≡◌, ℕ, zero, suc, ◌^◌, ◌<◌, ◌≤◌, Bool, true, false, ◌||◌, ltb, leb, List, [], ◌∷◌, length, drop, slice_get, Some, None, Ok, Err, Option, Result, sym, refl, ap, ◌∙◌, subst, arith, length-append, length-drop}
+use Rattle.std.proofs.Common.{◌≡◌, ℕ, zero, suc, ◌^◌, ◌<◌, ◌≤◌, Bool, true, false, ◌||◌, ltb, leb, List, [], ◌∷◌, length, drop, slice_get, Some, None, Ok, Err, Option, Result, ◌⊎◌, inl, inr, sym, refl, ap, ◌∙◌, subst, arith, length-append, length-drop}
 use Rattle.std.proofs.lemmas.Bool.{leb-true, leb-false, ltb-false, or_parts}
-use Rattle.std.proofs.lemmas.List.{drop_at}
 use Rattle.std.proofs.lemmas.Option.{none-some, same_Some}
 use Rattle.packing.specs.Packing.{joined, written}
 use Rattle.column.specs.declared.kinds.Kind.{Kind}
 use Rattle.column.specs.declared.kinds.Kind.TheVariants.{U8, U16, U32, U64, I8, I16, I32, I64}
 use Rattle.column.specs.declared.refusals.Refusal.{Refusal}
-use Rattle.column.specs.declared.refusals.Refusal.TheVariants.{UnknownColumn}
+use Rattle.column.specs.declared.refusals.Refusal.TheVariants.{UnknownColumn, ShortBuffers, LittleMemory}
 use Rattle.column.specs.Kinds.{number_of}
 use Rattle.column.specs.Columns.{Column, Clean, bits, cells, presence, words_for}
 use Rattle.column.proofs.RowLaws.{clean-kind, length-cells, length_digits}
@@ -60,17 +59,15 @@ record Answer (set : Setting) (c : Column) (m : ℕ) (x : Lent) : Type 0 where
   pub given : Given set c x m reply left
   pub astray : Astray x reply left
 
+own-refusal : {e : Refusal} (p q : Bool) → short_if p q ≡ Some e → (e ≡ UnknownColumn) ⊎ ((e ≡ ShortBuffers) ⊎ (e ≡ LittleMemory))
+own-refusal true q f = inr (inl cc)
+own-refusal false true f = inr (inr cc)
+own-refusal false false f = absurd (none-some _ f)
+
 enough : (p q : Bool) → short_if p q ≡ None → (p ≡ false) × (q ≡ false)
 enough true q e = absurd (none-some _ (sym e))
 enough false true e = absurd (none-some _ (sym e))
 enough false false e = (refl, refl)
-
--- a write at the front leaves what lies beyond, and the length
-beyond : (new old : List ℕ) (n : ℕ) → length new ≡ n → n ≤ length old → (drop n (written new old) ≡ drop n old) × (length (written new old) ≡ length old)
-beyond new old n l h =
-    let a = length-append new (drop (length new) old) in
-    let d = length-drop (length new) old in
-    (drop_at new (drop (length new) old) n l ∙ ap (λ k. drop k old) l, omega arith)
 
 answer : (set : Setting) (c : Column) → Clean c → (m : ℕ) (x : Lent) → Answer set c m x
 answer set c cl m x = go (short_by set (length c.rows) x m) refl
@@ -79,17 +76,15 @@ answer set c cl m x = go (short_by set (length c.rows) x m) refl
     n = length c.rows
 
     go : (q : Option Refusal) → short_by set n x m ≡ q → Answer set c m x
-    go (Some e) f = record { reply = Err e; left = x; given = subst (λ q. GivenBy q c x (Err e) x) (sym f) (refl, refl); astray = refl }
+    go (Some e) f = record { reply = Err e; left = x; given = subst (λ q. GivenBy q c x (Err e) x) (sym f) (refl, refl); astray = (refl, own-refusal _ _ f) }
     go None f =
         let k = named c.kind (clean-kind c cl) in
         let few = enough (ltb (length x.cells) n || ltb (length x.words) (words_for n)) (ltb m (working_memory set.levels n)) f in
         let room = or_parts (ltb (length x.cells) n) (ltb (length x.words) (words_for n)) few.0 in
         let a = ltb-false (length x.cells) n room.0 in
         let b = ltb-false (length x.words) (words_for n) room.1 in
-        let u = beyond (cells c.rows) x.cells n (length-cells c.rows) a in
-        let v = beyond (presence c.rows) x.words (words_for n) (length_digits (2 ^ 64) (words_for n) (joined 2 (bits c.rows))) b in
         let r : Result Fetched Refusal = Ok (record { kind = k.0; rows = n }) in
-        record { reply = r; left = filled_with c x; given = subst (λ q. GivenBy q c x r (filled_with c x)) (sym f) ((k.1, refl), refl); astray = (a, b, u.0, v.0, u.1, v.1) }
+        record { reply = r; left = filled_with c x; given = subst (λ q. GivenBy q c x r (filled_with c x)) (sym f) ((k.1, refl), refl); astray = record { rows = c.rows; count = refl; cells_fit = a; words_fit = b; filled = refl } }
 
 clean-at : (P : Column → Node → Type 0) → ((c : Column) (n : Node) → P c n → Clean c) → (cs : List Column) (ns : List Node) → Each P cs ns → (i : ℕ) → i < length cs
     → (c : Column) × ((slice_get cs i ≡ Some c) × Clean c)
@@ -113,7 +108,7 @@ past-fetch : (set : Setting) (s : State) (i m : ℕ) (x : Lent) → s.count ≤ 
 past-fetch set s i m x l = record {
   unknown = λ _. (refl, refl);
   given = λ ds k c f. absurd (none-some c (sym (past-end ds i (let n = k.count in omega arith)) ∙ f));
-  astray = refl;
+  astray = (refl, inl refl);
 }
 
 can-fetch : (set : Setting) → Granted set → (s : State) (cs : List Column) → Held set s cs → (i m : ℕ) (x : Lent) → (r : Result Fetched Refusal) × ((y : Lent) × Fetch set s i m x r y)

@@ -2,16 +2,14 @@
 use Rattle.std.proofs.Common.{◌≡◌, ℕ, ◌-◌, ◌≤◌, false, List, [], ◌∷◌, length, sym, refl, ◌∙◌, subst}
 use Rattle.column.specs.Columns.{Column}
 use Rattle.node.specs.Nodes.{weight, plain_node}
-use Rattle.levels.specs.Standing.{Stands}
-use Rattle.levels.proofs.StandingLaws.{levels-stand}
 use Rattle.calls.specs.Openings.{Setting, Granted}
 use Rattle.calls.specs.Calls.{State, opened}
-use Rattle.calls.specs.Runs.{Event, Step, Run, after, accepted_from, Lawful, Kept, AlikeCalls, SameRuns, MainLaw}
+use Rattle.calls.specs.Runs.{Event, Step, Run, after, accepted_from, Lawful, Kept, OnlyStands, AlikeCalls, SameRuns, MainLaw}
 use Rattle.calls.proofs.NodeLists.{each-map}
 use Rattle.calls.proofs.HeldLaws.{Holds, none-held}
 use Rattle.calls.proofs.OpenLaws.{few-levels}
 use Rattle.calls.proofs.MadeLaws.{Made, all-made}
-use Rattle.calls.proofs.StepLaws.{step}
+use Rattle.calls.proofs.StepLaws.{only-stands, step}
 use Rattle.calls.proofs.HideLaws.{same-call}
 
 module _ (set : Setting) (g : Granted set) (room : ℕ) where
@@ -28,8 +26,8 @@ module _ (set : Setting) (g : Granted set) (room : ℕ) where
   kept : (u : State) (cs : List Column) → Holds set room u cs → Kept set room cs u
   kept u cs h = record {
     nodes = h.held.nodes;
-    stand = each-map (Made set) (λ c n. Stands set.opening false set.levels c [] n × (weight n ≤ weight (plain_node c)))
-        (λ c n k. (levels-stand set.opening g.keep false set.levels c [] n k.bound, k.holding.light)) cs h.held.nodes
+    stand = each-map (Made set) (λ c n. OnlyStands set c n × (weight n ≤ weight (plain_node c)))
+        (λ c n k. (only-stands set g c n k.bound, k.holding.light)) cs h.held.nodes
         (all-made set g.keep.bank (few-levels set g) u cs h.held);
     count = h.held.count;
     used = h.held.used;

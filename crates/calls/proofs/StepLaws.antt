@@ -4,22 +4,30 @@ use Rattle.std.proofs.lemmas.Bool.{leb-true, leb-false}
 use Rattle.column.specs.declared.refusals.Refusal.{Refusal}
 use Rattle.column.specs.declared.refusals.Refusal.TheVariants.{UnknownColumn}
 use Rattle.column.specs.Columns.{Column, Offer, cleaned}
-use Rattle.node.specs.Nodes.{whole, weight}
+use Rattle.node.specs.Nodes.{Node, whole, weight}
 use Rattle.node.specs.Reading.{weight_read, header_read}
 use Rattle.node.proofs.HeaderLaws.{header-back}
 use Rattle.node.proofs.WeightLaws.{weigh-flat}
 use Rattle.levels.specs.Levels.{Bound}
 use Rattle.levels.proofs.StandingLaws.{levels-stand}
+use Rattle.levels.proofs.UniqueLaws.{one-stands}
 use Rattle.calls.specs.declared.answers.Fetched.{Fetched}
 use Rattle.calls.specs.declared.answers.Weighed.{Weighed}
 use Rattle.calls.specs.Openings.{Setting, Granted}
-use Rattle.calls.specs.Calls.{State, taken, unless, bind_reply, bind_next, Held, Lent, short_by, Fetch, node_at, weighed_at, whole_in, Weigh}
-use Rattle.calls.specs.Runs.{Event, bound, fetched, weighed, Step, after, Gives, Weighs, LawfulCall}
+use Rattle.calls.specs.Calls.{State, bound_in, taken, unless, bind_reply, bind_next, Held, Lent, short_by, Fetch, node_at, weighed_at, whole_in, Weigh}
+use Rattle.calls.specs.Runs.{Event, bound, fetched, weighed, Step, after, Gives, Weighs, OnlyStands, LawfulCall}
 use Rattle.calls.proofs.OpenLaws.{few-levels}
 use Rattle.calls.proofs.NodeLists.{past-end, Beginning}
 use Rattle.calls.proofs.MadeLaws.{Made, node-begins}
 use Rattle.calls.proofs.BackLaws.{back}
 use Rattle.calls.proofs.HeldLaws.{accepted, Holds, one-more}
+
+-- what the levels made stands, and nothing else does
+pub only-stands : (set : Setting) → Granted set → (c : Column) (n : Node) → bound_in set c ≡ Ok n → OnlyStands set c n
+only-stands set g c n e = record {
+  stands = levels-stand set.opening g.keep false set.levels c [] n e;
+  only = λ k s. one-stands set.opening g.keep false set.levels c [] k n s e;
+}
 
 -- ---- bind
 
@@ -56,7 +64,7 @@ module _ (set : Setting) (g : Granted set) (s : State) (cs : List Column) (h : H
       let k = b.good.holding in
       let v : weight_read set.levels bs ≡ weight n = ap (weight_read set.levels) b.bytes ∙ weigh-flat set.levels n b.rest k.fit k.low in
       let l : whole_in (header_read bs) ≡ whole n = ap (λ x. whole_in (header_read x)) b.bytes ∙ ap whole_in (header-back n b.rest k.fit) in
-      subst (λ c. Weighs set c r) (sym b.number) (n, (levels-stand set.opening g.keep false set.levels b.column [] n b.good.bound, e ∙ (λ j. Ok (record { weight = v j; whole = l j }))))
+      subst (λ c. Weighs set c r) (sym b.number) (n, (only-stands set g b.column n b.good.bound, e ∙ (λ j. Ok (record { weight = v j; whole = l j }))))
 
   pub weighs : (r : Result Weighed Refusal) → Weigh set s i r → Weighs set (slice_get cs i) r
   weighs r k = go (leb s.count i) refl k.answer

@@ -1,10 +1,10 @@
 -- What each call of a binder answers and leaves: the contracts of the calls, and the steps of a run.
-use Rattle.std.specs.Prelude.{◌≡◌, ℕ, zero, suc, ◌+◌, ◌-◌, ◌≤◌, Bool, true, false, ◌||◌, List, ◌++◌, length, drop, replicate, Some, None, Ok, Err, Option, Result, nat_le, nat_lt, slice_get}
+use Rattle.std.specs.Prelude.{◌≡◌, ℕ, zero, suc, ◌+◌, ◌-◌, ◌≤◌, Bool, true, false, ◌||◌, ◌⊎◌, List, ◌++◌, length, drop, replicate, Some, None, Ok, Err, Option, Result, nat_le, nat_lt, slice_get}
 use Rattle.packing.specs.Packing.{written, written_at}
 use Rattle.column.specs.declared.refusals.Refusal.{Refusal}
 use Rattle.column.specs.declared.refusals.Refusal.TheVariants.{LittleMemory, ManyColumns, LittleSpace, UnknownColumn, ShortBuffers}
 use Rattle.column.specs.Kinds.{number_of}
-use Rattle.column.specs.Columns.{Column, Clean, Offer, cleaned, offer_refused, cells, presence, words_for}
+use Rattle.column.specs.Columns.{Row, Column, Clean, Offer, cleaned, offer_refused, cells, presence, words_for}
 use Rattle.node.specs.Nodes.{Node, flat, flats, whole}
 use Rattle.node.specs.declared.heads.Header.{Header}
 use Rattle.node.specs.Reading.{after_node, header_read, weight_read}
@@ -110,13 +110,18 @@ GivenBy None c x r y = Names c r × (y ≡ filled_with c x)
 abbrev pub Given : Setting → Column → Lent → ℕ → Result Fetched Refusal → Lent → Type 0
 Given set c x m r y = GivenBy (short_by set (length c.rows) x m) c x r y
 
--- on any bytes at all: a refusal leaves the places as they were, and nothing beyond the rows named is touched
+-- some rows, which fit into the places, stand there as those of a column do
+pub record SomeRows (f : Fetched) (x y : Lent) : Type 0 where
+  pub rows : List Row
+  pub count : length rows ≡ f.rows
+  pub cells_fit : f.rows ≤ length x.cells
+  pub words_fit : words_for f.rows ≤ length x.words
+  pub filled : y ≡ filled_with (record { kind = number_of f.kind; rows = rows }) x
+
+-- on any bytes at all: a refusal is one of a fetch and leaves the places as they were; else they have some rows
 abbrev pub Astray : Lent → Result Fetched Refusal → Lent → Type 0
-Astray x (Err e) y = y ≡ x
-Astray x (Ok f) y =
-    (f.rows ≤ length x.cells) × (words_for f.rows ≤ length x.words)
-    × (drop f.rows y.cells ≡ drop f.rows x.cells) × (drop (words_for f.rows) y.words ≡ drop (words_for f.rows) x.words)
-    × (length y.cells ≡ length x.cells) × (length y.words ≡ length x.words)
+Astray x (Err e) y = (y ≡ x) × ((e ≡ UnknownColumn) ⊎ ((e ≡ ShortBuffers) ⊎ (e ≡ LittleMemory)))
+Astray x (Ok f) y = SomeRows f x y
 
 pub record Fetch (set : Setting) (s : State) (i m : ℕ) (x : Lent) (r : Result Fetched Refusal) (y : Lent) : Type 0 where
   -- no such number

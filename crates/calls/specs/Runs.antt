@@ -59,10 +59,15 @@ abbrev pub Gives : Setting → Option Column → ℕ → Lent → Result Fetched
 Gives set None m x r y = (r ≡ Err UnknownColumn) × (y ≡ x)
 Gives set (Some c) m x r y = Given set c x m r y × Back c r y
 
--- a weighing of the i-th accepted column gives the weight and the whole length of a node that stands for it; without one it is refused
+-- n stands for the column, and no other node does
+pub record OnlyStands (set : Setting) (c : Column) (n : Node) : Type 0 where
+  pub stands : Stands set.opening false set.levels c [] n
+  pub only : (k : Node) → Stands set.opening false set.levels c [] k → k ≡ n
+
+-- a weighing of the i-th accepted column gives the weight and the whole length of the node that stands for it; without one it is refused
 abbrev pub Weighs : Setting → Option Column → Result Weighed Refusal → Type 0
 Weighs set None r = r ≡ Err UnknownColumn
-Weighs set (Some c) r = (n : Node) × (Stands set.opening false set.levels c [] n × (r ≡ Ok (record { weight = weight n; whole = whole n })))
+Weighs set (Some c) r = (n : Node) × (OnlyStands set c n × (r ≡ Ok (record { weight = weight n; whole = whole n })))
 
 -- an accepted bind gives the number of columns accepted before it; a refused one adds none
 abbrev pub LawfulCall : Setting → List Column → Event → Type 0
@@ -79,7 +84,7 @@ Lawful set cs (e ∷ es) = LawfulCall set cs e × Lawful set (after cs e) es
 
 pub record Kept (set : Setting) (room : ℕ) (cs : List Column) (u : State) : Type 0 where
   pub nodes : List Node
-  pub stand : Each (λ c n. Stands set.opening false set.levels c [] n × (weight n ≤ weight (plain_node c))) cs nodes
+  pub stand : Each (λ c n. OnlyStands set c n × (weight n ≤ weight (plain_node c))) cs nodes
   pub count : u.count ≡ length cs
   pub used : u.used ≡ length (flats nodes)
   pub zeros : ℕ

@@ -1,21 +1,23 @@
 -- What the levels make stands.
-use Rattle.std.proofs.Common.{◌≡◌, ℕ, zero, suc, ◌≤◌, Bool, true, false, ltb, List, [], ◌∷◌, ◌++◌, length, Some, None, Ok, Err, Result, sym, refl, ap, ◌∙◌, subst, suc-le-suc, zero-le}
+use Rattle.std.proofs.Common.{◌≡◌, ℕ, zero, suc, ◌≤◌, Bool, true, false, true≢false, eqb, ltb, List, [], ◌∷◌, ◌++◌, length, Some, None, Ok, Err, Result, sym, refl, ap, ◌∙◌, subst, suc-le-suc, zero-le}
 use Rattle.std.specs.List.{AllByRecursion}
 use Rattle.std.proofs.ByRecursion.{All-weaker}
 use Rattle.std.proofs.lemmas.Bool.{ltb-true, ltb-false}
+use Rattle.column.specs.declared.refusals.Refusal.{Refusal}
 use Rattle.column.specs.Columns.{Row, Column, values}
 use Rattle.stats.specs.Stats.{Stats}
 use Rattle.node.specs.Nodes.{Node, weight, plain_node, constant_node}
 use Rattle.scheme.specs.declared.estimate.CompressionEstimate.{CompressionEstimate}
 use Rattle.scheme.specs.declared.estimate.CompressionEstimate.TheVariants.{Verdict, Deferred}
 use Rattle.scheme.specs.declared.estimate.DeferredEstimate.TheVariants.{Sample, Callback}
+use Rattle.scheme.specs.declared.estimate.EstimateVerdict.{EstimateVerdict}
 use Rattle.scheme.specs.Scores.{marked}
 use Rattle.scheme.specs.Meaning.{Meaning, Parts, History, Keeps}
 use Rattle.scheme.specs.Exclusion.{competes, keep_if, eligible_of, eligible}
 use Rattle.scheme.specs.Banks.{AllKeep}
 use Rattle.levels.specs.Choice.{Best, mark_of, Late, Chosen, late_step, asked, decided, chosen_by}
-use Rattle.levels.specs.Levels.{Bound, Below, Kids, kid_step, kids_below, scheme_node, over_kids, bound_by, scheme_bound, late, stats_at, choice, lighter_by, or_plain, won, taken_constant, constant_by, leveled, levels}
-use Rattle.levels.specs.Standing.{Opening, Keep, verdict_by, verdict_at, answer_at, competitors, WinsAt, SomeScheme, Competed, Stands, on_ground, no_row, no_value, one_value, one_value_plain, no_scheme, none_counts, not_lighter, winner_stands, StandAll, none_left, one_more, LevelsStand}
+use Rattle.levels.specs.Levels.{score_by, Bound, Below, Kids, kid_step, kids_below, scheme_node, over_kids, bound_by, scheme_bound, late, stats_at, choice, lighter_by, or_plain, won, taken_constant, constant_by, leveled, levels}
+use Rattle.levels.specs.Standing.{Scoring, ScoresStand, Opening, Keep, verdict_by, verdict_at, answer_at, competitors, WinsAt, SomeScheme, Competed, Stands, on_ground, no_row, no_value, one_value, one_value_plain, no_scheme, none_counts, not_lighter, winner_stands, StandAll, none_left, one_more, LevelsStand}
 use Rattle.levels.proofs.WinnerLaws.{Outcome, Told, Known, mark-free, chosen-ok}
 
 all-keep_if : (P : Meaning → Type 0) (b : Bool) (m : Meaning) (ms : List Meaning) → P m → AllByRecursion P ms → AllByRecursion P (keep_if b m ms)
@@ -138,3 +140,22 @@ module _ (o : Opening) (keep : Keep o) (f : Bool) where
 
 pub levels-stand : LevelsStand
 levels-stand o k f l c h n e = subst (BoundOk o k f l c h) e (bound-ok o k f l c h)
+
+-- ---- scores
+
+verdict-is : {v w : EstimateVerdict} → ◌≡◌ {A = Result EstimateVerdict Refusal} (Ok v) (Ok w) → w ≡ v
+verdict-is e = cc
+
+not-refused : {X : Type 0} {r : Refusal} {v : EstimateVerdict} → ◌≡◌ {A = Result EstimateVerdict Refusal} (Err r) (Ok v) → X
+not-refused e = absurd (let z : ◌≡◌ {A = ℕ} 0 1 = cc in true≢false (ap (eqb 0) z))
+
+pub scores-stand : ScoresStand
+unfolding scheme_bound
+scores-stand o k l c h m v e = parts-go (m.parts c) refl e
+  where
+    kids-go : (p : Parts) → m.parts c ≡ Ok p → (ks : Kids) → KidsOk o k true l m.id h 0 p.children ks → score_by c (over_kids m c p ks) ≡ Ok v → Scoring o l c h m v
+    kids-go p g (Ok ns) q x = record { parts = p; children = ns; given = g; stand = q; score = verdict-is x }
+    kids-go p g (Err r) q x = not-refused x
+    parts-go : (x : Result Parts ℕ) → m.parts c ≡ x → score_by c (bound_by (below o k true l) m c h true x) ≡ Ok v → Scoring o l c h m v
+    parts-go (Ok p) g x = kids-go p g (kids_below (below o k true l) m.id h true 0 p.children) (kids-ok o k true l m.id h (bound-ok o k true l) 0 p.children) x
+    parts-go (Err r) g x = not-refused x

@@ -11,11 +11,11 @@ use Rattle.scheme.specs.declared.estimate.CompressionEstimate.TheVariants.{Verdi
 use Rattle.scheme.specs.declared.estimate.DeferredEstimate.TheVariants.{Sample, Callback}
 use Rattle.scheme.specs.declared.estimate.EstimateVerdict.{EstimateVerdict}
 use Rattle.scheme.specs.declared.estimate.EstimateVerdict.TheVariants.{Skip, AlwaysUse, Ratio}
-use Rattle.scheme.specs.Scores.{valid, above, same}
+use Rattle.scheme.specs.Scores.{valid, above, same, score_of}
 use Rattle.scheme.specs.Meaning.{Meaning, Parts, History}
 use Rattle.scheme.specs.Exclusion.{eligible}
 use Rattle.scheme.specs.Banks.{AllKeep}
-use Rattle.levels.specs.Levels.{levels, scored, scheme_node, stats_at, taken_constant}
+use Rattle.levels.specs.Levels.{levels, scored, score_verdict, scheme_node, stats_at, taken_constant}
 
 -- ---- what is opened
 
@@ -158,6 +158,16 @@ mutual
     one_more : (l i : ℕ) (h : History) (k : ℕ) (c : Column) (cs : List Column) (n : Node) (ns : List Node)
         → Stands o f l c (h ++ ((i, k) ∷ [])) n → StandAll o f l i h (suc k) cs ns → StandAll o f l i h k (c ∷ cs) (n ∷ ns)
 
+-- ---- scores
+
+-- how scheme m scores on column c with l levels below: by its parts of the column, over the nodes that stand for the children in a sample
+pub record Scoring (o : Opening) (l : ℕ) (c : Column) (h : History) (m : Meaning) (v : EstimateVerdict) : Type 0 where
+  pub parts : Parts
+  pub children : List Node
+  pub given : m.parts c ≡ Ok parts
+  pub stand : StandAll o true l m.id h 0 parts.children children
+  pub score : v ≡ score_verdict (score_of (weight (plain_node c)) (weight (scheme_node m c parts children)))
+
 -- ---- the laws
 
 -- what the levels make stands
@@ -171,3 +181,9 @@ abbrev pub OneStands : Type 0
 OneStands =
     (o : Opening) → Keep o → (f : Bool) (l : ℕ) (c : Column) (h : History) (n k : Node)
     → Stands o f l c h n → levels o.bank o.source l c h f ≡ Ok k → n ≡ k
+
+-- a score is that of nodes that stand
+abbrev pub ScoresStand : Type 0
+ScoresStand =
+    (o : Opening) → Keep o → (l : ℕ) (c : Column) (h : History) (m : Meaning) (v : EstimateVerdict)
+    → scored (levels o.bank o.source l) h m c ≡ Ok v → Scoring o l c h m v
