@@ -65,7 +65,7 @@ witness = (
               (
                 (
                   held-fetch four_levels granted both columns held 0 (cleaned seven_blank) refl (omega arith) 2680 small_before (Ok (record { kind = U8; rows = 2 })) small_after
-                      ((refl, refl), refl) (omega arith, omega arith, refl, refl, refl, refl),
+                      ((refl, refl), refl) (record { rows = (cleaned seven_blank).rows; count = refl; cells_fit = omega arith; words_fit = omega arith; filled = refl }),
                   refl,
                 ),
                 (
@@ -73,7 +73,7 @@ witness = (
                   (
                     (
                       held-fetch four_levels granted both columns held 1 (cleaned twelve) refl (omega arith) 3280 large_before (Ok (record { kind = U16; rows = 12 })) large_after
-                          ((refl, refl), refl) (omega arith, omega arith, refl, refl, refl, refl),
+                          ((refl, refl), refl) (record { rows = (cleaned twelve).rows; count = refl; cells_fit = omega arith; words_fit = omega arith; filled = refl }),
                       refl,
                     ),
                     (both, ((record { answer = refl }, refl), (both, ((record { answer = refl }, refl), refl)))),

@@ -156,6 +156,7 @@ scores-stand o k l c h m v e = parts-go (m.parts c) refl e
     kids-go : (p : Parts) → m.parts c ≡ Ok p → (ks : Kids) → KidsOk o k true l m.id h 0 p.children ks → score_by c (over_kids m c p ks) ≡ Ok v → Scoring o l c h m v
     kids-go p g (Ok ns) q x = record { parts = p; children = ns; given = g; stand = q; score = verdict-is x }
     kids-go p g (Err r) q x = not-refused x
+
     parts-go : (x : Result Parts ℕ) → m.parts c ≡ x → score_by c (bound_by (below o k true l) m c h true x) ≡ Ok v → Scoring o l c h m v
     parts-go (Ok p) g x = kids-go p g (kids_below (below o k true l) m.id h true 0 p.children) (kids-ok o k true l m.id h (bound-ok o k true l) 0 p.children) x
     parts-go (Err r) g x = not-refused x
