@@ -16,9 +16,12 @@ const RUNS: usize = 10;
 
 fn main() {
     let mut engines = engines();
-    let heads = engines.iter().map(|e| format!(" bind, {} | read, {} |", e.name(), e.name()));
-    println!("| column | kind | bytes | nodes |{}", heads.collect::<String>());
-    println!("|---|---|---|---|{}", "---|---|".repeat(engines.len()));
+    print!("| column | kind | bytes | nodes |");
+    for call in ["bind", "read"] {
+        engines.iter().for_each(|engine| print!(" {call}, {} |", engine.name()));
+        engines[1..].iter().for_each(|_| print!(" times |"));
+    }
+    println!("\n|---|---|---|---|{}", "---|".repeat(4 * engines.len() - 2));
     for column in columns::all() {
         print_row(&column, &mut engines);
     }
@@ -44,8 +47,10 @@ fn print_row(column: &Column, engines: &mut [Box<dyn Engine>]) {
         }
     }
     print!("| {} | {} | {} | {} |", column.name, column.kind.name(), bytes.len(), forms(&bytes));
-    for (bind, read) in bests {
-        print!(" {:.2} | {:.2} |", a_row(bind), a_row(read));
+    let (binds, reads): (Vec<_>, Vec<_>) = bests.into_iter().unzip();
+    for times in [binds, reads] {
+        times.iter().for_each(|time| print!(" {:.2} |", a_row(*time)));
+        times[1..].iter().for_each(|time| print!(" {:.1} |", a_row(*time) / a_row(times[0])));
     }
     println!();
 }

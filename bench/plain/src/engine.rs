@@ -48,7 +48,9 @@ pub fn bind_node(column: Column<'_>, place: &Place<'_>, out: &mut Vec<u8>) -> us
     if column.value_count() == 0 {
         return put_blank(column, out);
     }
-    if !place.is_sample && let Some(value) = column.constant() {
+    if !place.is_sample
+        && let Some(value) = column.constant()
+    {
         return lightest(column, out, |out| put_constant(column, value, out));
     }
     let eligible: Vec<Scheme> = HOUSE.into_iter().filter(|s| !place.is_excluded(*s)).collect();

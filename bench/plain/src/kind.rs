@@ -13,8 +13,7 @@ pub enum Kind {
 }
 
 impl Kind {
-    pub const ALL: [Kind; 8] =
-        [Kind::U8, Kind::U16, Kind::U32, Kind::U64, Kind::I8, Kind::I16, Kind::I32, Kind::I64];
+    pub const ALL: [Kind; 8] = [Kind::U8, Kind::U16, Kind::U32, Kind::U64, Kind::I8, Kind::I16, Kind::I32, Kind::I64];
 
     pub fn of(number: u8) -> Option<Kind> {
         Kind::ALL.get(usize::from(number)).copied()

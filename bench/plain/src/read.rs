@@ -194,7 +194,9 @@ fn read_mask(node: &Node<'_>, bytes: &[u8], words: &mut [u64]) -> Option<()> {
     } else {
         words.fill(u64::MAX);
     }
-    if node.rows % 64 != 0 && let Some(last) = words.last_mut() {
+    if node.rows % 64 != 0
+        && let Some(last) = words.last_mut()
+    {
         *last &= (1 << (node.rows % 64)) - 1;
     }
     Some(())

@@ -74,7 +74,7 @@ fn compete<B: Bank, D: Draws + Drop>(
     ensures plan { Planned (competed_at (B.Bank.meanings bank.now.schemes.now) D.Draws.source ctx.now (seen array.entry.view)) plan.new }
 {
     let plain = Leaf::plain(array);
-    let Some(winner) = choose::<B, D>(bank, ctx, array, plan, mem)? else {
+    let Some(winner) = choose_best_scheme::<B, D>(bank, ctx, array, plan, mem)? else {
         return Ok(plain.noted(plan));
     };
     let size = measure_scheme::<B, D>(bank, ctx, winner, array, plan, mem)?;
@@ -87,7 +87,7 @@ fn compete<B: Bank, D: Draws + Drop>(
 
 // The number of the scheme that wins, if one does.
 #[cycle(measuring)]
-fn choose<B: Bank, D: Draws + Drop>(
+fn choose_best_scheme<B: Bank, D: Draws + Drop>(
     bank: &SmallBank<'_, B>,
     ctx: &CompressorContext,
     array: Cleaned<'_>,

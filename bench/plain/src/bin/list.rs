@@ -77,7 +77,7 @@ fn list(bytes: &[u8], level: usize, nodes: &mut Vec<String>) -> (usize, usize) {
 }
 
 fn crc32(bytes: &[u8]) -> u32 {
-    !bytes.iter().fold(!0u32, |crc, b| {
-        (0..8).fold(crc ^ u32::from(*b), |c, _| (c >> 1) ^ (0xedb88320 & (c & 1).wrapping_neg()))
-    })
+    !bytes
+        .iter()
+        .fold(!0u32, |crc, b| (0..8).fold(crc ^ u32::from(*b), |c, _| (c >> 1) ^ (0xedb88320 & (c & 1).wrapping_neg())))
 }

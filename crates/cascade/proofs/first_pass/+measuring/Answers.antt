@@ -72,14 +72,14 @@ measure-returns-in-None g t c =
 
 -- ---- compete
 
-pub compete-choose-requires : goal.compete-choose-requires
-compete-choose-requires g t c κs within =
+pub compete-choose_best_scheme-requires : goal.compete-choose_best_scheme-requires
+compete-choose_best_scheme-requires g t c κs within =
     let m = c.decreases in
     let r = c.requires in
     (omega arith, (within.0, (within.1, (r.level, (r.deep, (r.plan, r.room))))))
 
 pub compete-noted-requires : goal.compete-noted-requires
-compete-noted-requires g t c = let p = places-some c.args.ctx.now.allowed_cascading in let q = c.requires.plan in let l = c.choose.auto.plan in record { room = omega arith }
+compete-noted-requires g t c = let p = places-some c.args.ctx.now.allowed_cascading in let q = c.requires.plan in let l = c.choose_best_scheme.auto.plan in record { room = omega arith }
 
 pub compete-measure_scheme-requires : goal.compete-measure_scheme-requires
 compete-measure_scheme-requires g t c κs within =
@@ -87,8 +87,8 @@ compete-measure_scheme-requires g t c κs within =
     let r = c.requires in
     let ms = g.B.Bank.meanings c.args.bank.now.schemes.now in
     let k = number_of c.args.array.view.kind in
-    let p = c.choose.auto.plan in
-    let q = c.choose.auto.mem in
+    let p = c.choose_best_scheme.auto.plan in
+    let q = c.choose_best_scheme.auto.mem in
     let rp = r.plan in
     let rm = r.room in
     let a = subst (λ o. AblePick ms k (Ok o)) c.in-Some.is c.in_ok-winner.ensures.able in
@@ -98,14 +98,14 @@ pub compete-noted-requires-else-size-plain : goal.compete-noted-requires-else-si
 compete-noted-requires-else-size-plain g t c =
     let p = places-some c.args.ctx.now.allowed_cascading in
     let q = c.requires.plan in
-    let l = c.choose.auto.plan in
+    let l = c.choose_best_scheme.auto.plan in
     let k = c.measure_scheme.auto.plan in
     record { room = omega arith }
 
--- ---- choose
+-- ---- choose_best_scheme
 
-pub choose-decide-requires : goal.choose-decide-requires
-choose-decide-requires g t c κs within =
+pub choose_best_scheme-decide-requires : goal.choose_best_scheme-decide-requires
+choose_best_scheme-decide-requires g t c κs within =
     let m = c.decreases in
     let r = c.requires in
     let a = c.in-Waiting.ensures.able in
@@ -115,8 +115,8 @@ choose-decide-requires g t c κs within =
     let n = c.rows.ensures in
     (omega arith, (within.0, (within.1, (r.level, (r.deep, (a.0, (a.1, (r.plan, omega arith))))))))
 
-pub choose-returns-in-Ended-clause-is : goal.choose-returns-in-Ended-clause-is
-choose-returns-in-Ended-clause-is g t c =
+pub choose_best_scheme-returns-in-Ended-clause-is : goal.choose_best_scheme-returns-in-Ended-clause-is
+choose_best_scheme-returns-in-Ended-clause-is g t c =
     let ms = g.B.Bank.meanings c.args.bank.now.schemes.now in
     let v = seen c.args.array.view in
     let d = g.D.Draws.source in
@@ -125,8 +125,8 @@ choose-returns-in-Ended-clause-is g t c =
     let s = stats-here ms v c.cascade_history.result.now h c.any_wants.result _ c.generate_opts-stats.ensures.stands c.any_wants.ensures c.cascade_history.ensures.history in
     choice-ended ms d (levels ms d (l - 1)) v h c.args.ctx.now.is_sample _ s c.in-Ended.scheme c.in-Ended.ensures.is
 
-pub choose-returns-in-Waiting-clause-is : goal.choose-returns-in-Waiting-clause-is
-choose-returns-in-Waiting-clause-is g t c =
+pub choose_best_scheme-returns-in-Waiting-clause-is : goal.choose_best_scheme-returns-in-Waiting-clause-is
+choose_best_scheme-returns-in-Waiting-clause-is g t c =
     let ms = g.B.Bank.meanings c.args.bank.now.schemes.now in
     let v = seen c.args.array.view in
     let d = g.D.Draws.source in

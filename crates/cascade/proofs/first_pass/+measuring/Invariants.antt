@@ -15,8 +15,8 @@ decreases-measure g l = 7 * l.ctx.now.allowed_cascading + 6
 abbrev pub decreases-compete : goal.decreases-compete
 decreases-compete g l = 7 * l.ctx.now.allowed_cascading + 5
 
-abbrev pub decreases-choose : goal.decreases-choose
-decreases-choose g l = 7 * l.ctx.now.allowed_cascading + 4
+abbrev pub decreases-choose_best_scheme : goal.decreases-choose_best_scheme
+decreases-choose_best_scheme g l = 7 * l.ctx.now.allowed_cascading + 4
 
 abbrev pub decreases-decide : goal.decreases-decide
 decreases-decide g l = 7 * l.ctx.now.allowed_cascading + 3
