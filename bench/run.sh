@@ -9,7 +9,7 @@ fi
 
 # What `benchlib` stands on, and itself, side by side in a copy: the gate has no use for a library that only this program calls.
 below='packing column stats node sample scheme constant levels holds calls bank opening select choice children cascade emit reading
-compressor stern frame runs dict banks'
+compressor binder stern frame runs dict banks'
 copy=target/rattle
 for crate in $below; do
     mkdir -p "$copy/crates/$crate"

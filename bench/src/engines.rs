@@ -51,7 +51,7 @@ impl Engine for Plain {
 }
 
 #[cfg(feature = "proved")]
-mod proved {
+pub mod proved {
     use super::{Column, Engine, ROWS};
 
     // Two functions of `benchlib`; slices are passed as a pointer and a length. Each gives 0 where it refuses.
@@ -140,6 +140,79 @@ mod proved {
             };
             assert!(rows > 0, "it is read");
             (&self.cells[..rows], &self.words[..rows.div_ceil(64)])
+        }
+    }
+
+    // Two more, by the binder's public calls.
+    unsafe extern "C" {
+        fn bench_binder_bind(
+            kind: u8,
+            cells: *const u64,
+            cells_len: usize,
+            words: *const u64,
+            words_len: usize,
+            mem: *mut u64,
+            mem_len: usize,
+            bytes: *mut u8,
+            bytes_len: usize,
+        ) -> usize;
+
+        fn bench_binder_fetch(
+            kind: u8,
+            cells: *const u64,
+            cells_len: usize,
+            words: *const u64,
+            words_len: usize,
+            mem: *mut u64,
+            mem_len: usize,
+            bytes: *mut u8,
+            bytes_len: usize,
+            cells_back: *mut u64,
+            cells_back_len: usize,
+            words_back: *mut u64,
+            words_back_len: usize,
+        ) -> usize;
+    }
+
+    impl Proved {
+        /// Opens a binder and binds the column; the bytes in use.
+        pub fn open_and_bind(&mut self, column: &Column) -> usize {
+            // SAFETY: as above.
+            unsafe {
+                bench_binder_bind(
+                    column.kind.number(),
+                    column.cells.as_ptr(),
+                    column.cells.len(),
+                    column.words.as_ptr(),
+                    column.words.len(),
+                    self.mem.as_mut_ptr(),
+                    self.mem.len(),
+                    self.bytes.as_mut_ptr(),
+                    self.bytes.len(),
+                )
+            }
+        }
+
+        /// Opens a binder, binds the column and fetches it; the rows fetched.
+        pub fn open_bind_and_fetch(&mut self, column: &Column) -> usize {
+            // SAFETY: as above.
+            unsafe {
+                bench_binder_fetch(
+                    column.kind.number(),
+                    column.cells.as_ptr(),
+                    column.cells.len(),
+                    column.words.as_ptr(),
+                    column.words.len(),
+                    self.mem.as_mut_ptr(),
+                    self.mem.len(),
+                    self.bytes.as_mut_ptr(),
+                    self.bytes.len(),
+                    self.cells.as_mut_ptr(),
+                    self.cells.len(),
+                    self.words.as_mut_ptr(),
+                    self.words.len(),
+                )
+            }
         }
     }
 }

@@ -25,6 +25,24 @@ fn main() {
     for column in columns::all() {
         print_row(&column, &mut engines);
     }
+    #[cfg(feature = "proved")]
+    print_calls();
+}
+
+/// The binder's public calls: a binder is opened and a column bound; the same and the column fetched, of which the first is taken away.
+#[cfg(feature = "proved")]
+fn print_calls() {
+    let mut proved = engines::proved::Proved::new();
+    println!("\n| column | open and bind | fetch |\n|---|---|---|");
+    for column in columns::all() {
+        assert!(proved.open_bind_and_fetch(&column) == ROWS, "it is fetched");
+        let (mut bind, mut both) = (Duration::MAX, Duration::MAX);
+        for _ in 0..TURNS * RUNS {
+            bind = bind.min(time(|| proved.open_and_bind(&column)));
+            both = both.min(time(|| proved.open_bind_and_fetch(&column)));
+        }
+        println!("| {} | {:.2} | {:.2} |", column.name, a_row(bind), a_row(both) - a_row(bind));
+    }
 }
 
 fn print_row(column: &Column, engines: &mut [Box<dyn Engine>]) {
