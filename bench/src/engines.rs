@@ -143,21 +143,9 @@ pub mod proved {
         }
     }
 
-    // Two more, by the binder's public calls.
+    // One more, by the binder's public calls.
     unsafe extern "C" {
-        fn bench_binder_bind(
-            kind: u8,
-            cells: *const u64,
-            cells_len: usize,
-            words: *const u64,
-            words_len: usize,
-            mem: *mut u64,
-            mem_len: usize,
-            bytes: *mut u8,
-            bytes_len: usize,
-        ) -> usize;
-
-        fn bench_binder_fetch(
+        fn bench_calls(
             kind: u8,
             cells: *const u64,
             cells_len: usize,
@@ -175,29 +163,12 @@ pub mod proved {
     }
 
     impl Proved {
-        /// Opens a binder and binds the column; the bytes in use.
-        pub fn open_and_bind(&mut self, column: &Column) -> usize {
-            // SAFETY: as above.
+        /// Opens a binder and binds the column, and fetches it where that is wished; its rows.
+        pub fn calls(&mut self, column: &Column, fetch: bool) -> usize {
+            let (cells, words) = if fetch { (self.cells.len(), self.words.len()) } else { (0, 0) };
+            // SAFETY: as above; places of no length are part of the vectors.
             unsafe {
-                bench_binder_bind(
-                    column.kind.number(),
-                    column.cells.as_ptr(),
-                    column.cells.len(),
-                    column.words.as_ptr(),
-                    column.words.len(),
-                    self.mem.as_mut_ptr(),
-                    self.mem.len(),
-                    self.bytes.as_mut_ptr(),
-                    self.bytes.len(),
-                )
-            }
-        }
-
-        /// Opens a binder, binds the column and fetches it; the rows fetched.
-        pub fn open_bind_and_fetch(&mut self, column: &Column) -> usize {
-            // SAFETY: as above.
-            unsafe {
-                bench_binder_fetch(
+                bench_calls(
                     column.kind.number(),
                     column.cells.as_ptr(),
                     column.cells.len(),
@@ -208,9 +179,9 @@ pub mod proved {
                     self.bytes.as_mut_ptr(),
                     self.bytes.len(),
                     self.cells.as_mut_ptr(),
-                    self.cells.len(),
+                    cells,
                     self.words.as_mut_ptr(),
-                    self.words.len(),
+                    words,
                 )
             }
         }

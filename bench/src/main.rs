@@ -35,11 +35,11 @@ fn print_calls() {
     let mut proved = engines::proved::Proved::new();
     println!("\n| column | open and bind | fetch |\n|---|---|---|");
     for column in columns::all() {
-        assert!(proved.open_bind_and_fetch(&column) == ROWS, "it is fetched");
+        assert!(proved.calls(&column, true) == ROWS, "it is fetched");
         let (mut bind, mut both) = (Duration::MAX, Duration::MAX);
         for _ in 0..TURNS * RUNS {
-            bind = bind.min(time(|| proved.open_and_bind(&column)));
-            both = both.min(time(|| proved.open_bind_and_fetch(&column)));
+            bind = bind.min(time(|| proved.calls(&column, false)));
+            both = both.min(time(|| proved.calls(&column, true)));
         }
         println!("| {} | {:.2} | {:.2} |", column.name, a_row(bind), a_row(both) - a_row(bind));
     }
