@@ -14,6 +14,9 @@ use Rattle.dict.specs.Dict.{dict}
 use Rattle.runs.specs.Runs.{run_length}
 use Rattle.levels.specs.Levels.{bound}
 use Rattle.levels.specs.Plans.{places, share, room, working_memory}
+use Rattle.holds.specs.Holding.{own_most}
+use Rattle.children.specs.Apart.{places_for}
+use Rattle.cascade.specs.Rooms.{scheme_room, score_room, choice_room}
 use Rattle.worked.specs.Columns.{u8, u16, all, bytes, of_node, forms_of}
 use Rattle.worked.specs.Schemes.{below_child, counted_from}
 use Rattle.worked.specs.Levelling.{but_one}
@@ -34,6 +37,15 @@ pub record Sizes : Type 0 where
   pub spare_one : spare 1 ≡ 260
   -- the nodes that levels can make
   pub places : map places (0 ∷ 1 ∷ 2 ∷ 4 ∷ 8 ∷ []) ≡ 1 ∷ 3 ∷ 7 ∷ 31 ∷ 511 ∷ []
+  -- bytes of a node alone
+  pub own : own_most ≡ 1179680
+  -- words for the children of so many rows, about the end of a presence word
+  pub children : map places_for (0 ∷ 1 ∷ 64 ∷ 65 ∷ []) ≡ 0 ∷ 4 ∷ 130 ∷ 134 ∷ []
+  -- words for a scheme's node, a score and a choice, over the ground and over one level
+  pub scheme : map (scheme_room 0) (0 ∷ 1 ∷ []) ≡ 256 ∷ 264 ∷ []
+  pub score : map (score_room 0) (0 ∷ 1 ∷ []) ≡ 256 ∷ 266 ∷ []
+  pub choice : map (choice_room 0) (0 ∷ 1 ∷ []) ≡ 320 ∷ 332 ∷ []
+  pub choice_above : map (choice_room 1) (0 ∷ 1 ∷ []) ≡ 832 ∷ 856 ∷ []
 
 -- ---- kinds
 

@@ -16,4 +16,10 @@ returns c =
       spare_none = refl;
       spare_one = refl;
       places = refl;
+      own = refl;
+      children = refl;
+      scheme = refl;
+      score = refl;
+      choice = refl;
+      choice_above = refl;
     }
