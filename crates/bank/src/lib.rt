@@ -168,8 +168,78 @@ impl Bank for Empty {
 
     fn expected_compression_ratio_at(
         &self,
+        i: usize,
+        col: ArrayAndStats<'_>,
+        ctx: &CompressorContext,
+        mem: &mut [u64],
+    ) -> CompressionEstimate
+        ensures answer { result ≡ Verdict Skip }
+        ensures lent { mem.new ≡ mem.old }
+    {
+        Empty::expected_compression_ratio_at(self, i, col, ctx, mem)
+    }
+
+    fn verdict_at(
+        &self,
+        i: usize,
+        col: ArrayAndStats<'_>,
+        ctx: &CompressorContext,
+        mark: Option<EstimateScore>,
+        mem: &mut [u64],
+    ) -> EstimateVerdict
+        ensures answer { result ≡ Skip }
+        ensures lent { mem.new ≡ mem.old }
+    {
+        Empty::verdict_at(self, i, col, ctx, mark, mem)
+    }
+
+    fn shape_at(
+        &self,
+        i: usize,
+        array: Cleaned<'_>,
+        cells0: &mut [u64],
+        words0: &mut [u64],
+        cells1: &mut [u64],
+        words1: &mut [u64],
+        mem: &mut [u64],
+    ) -> Result<Shape, RowRefused>
+        ensures answer { result ≡ Err (record { row = 0 }) }
+        ensures child0 { (cells0.new ≡ cells0.old) × (words0.new ≡ words0.old) }
+        ensures child1 { (cells1.new ≡ cells1.old) × (words1.new ≡ words1.old) }
+        ensures lent { mem.new ≡ mem.old }
+    {
+        Empty::shape_at(self, i, array, cells0, words0, cells1, words1, mem)
+    }
+
+    fn payload_at(&self, i: usize, array: Cleaned<'_>, mem: &mut [u64], out: &mut [u8])
+        ensures bytes { out.new ≡ out.old }
+        ensures lent { mem.new ≡ mem.old }
+    {
+        Empty::payload_at(self, i, array, mem, out);
+    }
+
+    fn join_at(
+        &self,
+        i: usize,
+        stored: Stored<'_>,
+        mem: &mut [u64],
+        cells: &mut [u64],
+        words: &mut [u64],
+    )
+        ensures rows { (cells.new ≡ cells.old) × (words.new ≡ words.old) }
+        ensures lent { mem.new ≡ mem.old }
+    {
+        Empty::join_at(self, i, stored, mem, cells, words);
+    }
+}
+
+// Whatever stands in the place of a column, its statistics or a stored node: nothing is asked of it, not even what the types of a bank's
+// functions say of theirs.
+impl Empty {
+    pub fn expected_compression_ratio_at<C: Drop>(
+        &self,
         _i: usize,
-        _col: ArrayAndStats<'_>,
+        _col: C,
         _ctx: &CompressorContext,
         mem: &mut [u64],
     ) -> CompressionEstimate
@@ -179,10 +249,10 @@ impl Bank for Empty {
         CompressionEstimate::Verdict(EstimateVerdict::Skip)
     }
 
-    fn verdict_at(
+    pub fn verdict_at<C: Drop>(
         &self,
         _i: usize,
-        _col: ArrayAndStats<'_>,
+        _col: C,
         _ctx: &CompressorContext,
         _mark: Option<EstimateScore>,
         mem: &mut [u64],
@@ -193,10 +263,10 @@ impl Bank for Empty {
         EstimateVerdict::Skip
     }
 
-    fn shape_at(
+    pub fn shape_at<A: Drop>(
         &self,
         _i: usize,
-        _array: Cleaned<'_>,
+        _array: A,
         cells0: &mut [u64],
         words0: &mut [u64],
         cells1: &mut [u64],
@@ -211,22 +281,26 @@ impl Bank for Empty {
         Err(RowRefused { row: 0 })
     }
 
-    fn payload_at(&self, _i: usize, _array: Cleaned<'_>, mem: &mut [u64], out: &mut [u8])
+    pub fn payload_at<A: Drop>(&self, _i: usize, _array: A, mem: &mut [u64], out: &mut [u8])
         ensures bytes { out.new ≡ out.old }
         ensures lent { mem.new ≡ mem.old }
-    {}
+    {
+        // No byte is written.
+    }
 
-    fn join_at(
+    pub fn join_at<N: Drop>(
         &self,
         _i: usize,
-        _stored: Stored<'_>,
+        _stored: N,
         mem: &mut [u64],
         cells: &mut [u64],
         words: &mut [u64],
     )
         ensures rows { (cells.new ≡ cells.old) × (words.new ≡ words.old) }
         ensures lent { mem.new ≡ mem.old }
-    {}
+    {
+        // No row is written.
+    }
 }
 
 // A scheme before the others.

@@ -11,7 +11,7 @@ use Rattle.scheme.specs.declared.estimate.DeferredEstimate.{DeferredEstimate}
 use Rattle.scheme.specs.declared.estimate.EstimateScore.TheVariants.{FiniteCompression}
 use Rattle.scheme.specs.Meaning.{Meaning, History}
 use Rattle.scheme.specs.Banks.{at, nothing}
-use Rattle.scheme.specs.Bounded.{Bounded}
+use Rattle.scheme.specs.declared.bounded.Bounded.{Bounded}
 use Rattle.scheme.specs.Exclusion.{competes, keep_if, eligible, eligible_of}
 use Rattle.levels.specs.Choice.{Best, Asked, ended, waiting, wait, ask_step, asked, bested}
 use Rattle.levels.specs.NodesOf.{Able}
@@ -99,27 +99,27 @@ turns-done c t h f ms k i ds b w ge inv =
 
 -- ---- the loop: what is left to ask gives the answer w, and every scheme held takes the kind
 
-pub record Kept (c : Column) (t : Stats) (h : History) (f : Bool) (ms : List Meaning) (k i : ℕ) (T : Bounded Slot) (b : Option Leader) (w : Asked) : Type 0 where
+pub record Kept (c : Column) (t : Stats) (h : History) (f : Bool) (ms : List Meaning) (k i : ℕ) (T : Bounded Slot 8) (b : Option Leader) (w : Asked) : Type 0 where
   pub left : rest_of c t h f ms k i (deferred_of ms (slots_of T)) (best_of ms b) ≡ w
   pub leader : AbleLeader ms k b
   pub slots : AbleSlots ms k (slots_of T)
-  pub few : length T.items ≤ i
-  pub within : length T.items ≤ length ms
+  pub few : length (slots_of T) ≤ i
+  pub within : length (slots_of T) ≤ length ms
 
-pub kept-start : (c : Column) (t : Stats) (h : History) (f : Bool) (ms : List Meaning) (k : ℕ) (T : Bounded Slot) → slots_of T ≡ []
+pub kept-start : (c : Column) (t : Stats) (h : History) (f : Bool) (ms : List Meaning) (k : ℕ) (T : Bounded Slot 8) → slots_of T ≡ []
     → Kept c t h f ms k 0 T None (asked c t h f (eligible ms k h) None)
 kept-start c t h f ms k T es =
     let x = asked c t h f (eligible ms k h) None in
     let S : List Slot → Type 0 = λ y. AbleSlots ms k y in
-    let none : length T.items ≤ 0 = subst (λ (y : List Slot). length y ≤ 0) (sym es) zero-le in
+    let none : length (slots_of T) ≤ 0 = subst (λ (y : List Slot). length y ≤ 0) (sym es) zero-le in
     record { left = ap (λ y. prepend (deferred_of ms y) x) es ∙ prepend-none x; leader = tt; slots = subst S (sym es) tt; few = none; within = omega arith }
 
-module _ (c : Column) (t : Stats) (h : History) (f : Bool) (ms : List Meaning) (k i : ℕ) (T T2 : Bounded Slot) (b b2 : Option Leader) (w : Asked)
+module _ (c : Column) (t : Stats) (h : History) (f : Bool) (ms : List Meaning) (k i : ℕ) (T T2 : Bounded Slot 8) (b b2 : Option Leader) (w : Asked)
     (lt : i < length ms) (inv : Kept c t h f ms k i T b w) where
   same : T2 ≡ T → b2 ≡ b → rest_of c t h f ms k (i + 1) (deferred_of ms (slots_of T)) (best_of ms b) ≡ w → Kept c t h f ms k (i + 1) T2 b2 w
   same e_t eb l =
       let n = inv.few in
-      let P : Bounded Slot → Type 0 = λ y. Kept c t h f ms k (i + 1) y b w in
+      let P : Bounded Slot 8 → Type 0 = λ y. Kept c t h f ms k (i + 1) y b w in
       let Q : Option Leader → Type 0 = λ y. Kept c t h f ms k (i + 1) T2 y w in
       subst Q (sym eb) (subst P (sym e_t) (record { left = l; leader = inv.leader; slots = inv.slots; few = omega arith; within = inv.within }))
 
@@ -133,7 +133,7 @@ module _ (c : Column) (t : Stats) (h : History) (f : Bool) (ms : List Meaning) (
       → best_of ms b3 ≡ bested (at ms i) (FiniteCompression x) (best_of ms b) → AbleLeader ms k b3 → Kept c t h f ms k (i + 1) T2 b2 w
   kept-ratio x b3 e ea e_t e3 eb a =
       let n = inv.few in
-      let P : Bounded Slot → Type 0 = λ y. Kept c t h f ms k (i + 1) y b3 w in
+      let P : Bounded Slot 8 → Type 0 = λ y. Kept c t h f ms k (i + 1) y b3 w in
       let Q : Option Leader → Type 0 = λ y. Kept c t h f ms k (i + 1) T2 y w in
       subst Q (sym e3) (subst P (sym e_t) (record {
         left = turn-ratio c t h f ms k i (deferred_of ms (slots_of T)) (best_of ms b) w lt inv.left x (best_of ms b3) e ea eb;
@@ -143,14 +143,14 @@ module _ (c : Column) (t : Stats) (h : History) (f : Bool) (ms : List Meaning) (
         within = inv.within;
       }))
 
-  pub kept-deferred : (d : DeferredEstimate) (T3 : Bounded Slot) → true ≡ competes ms k h (at ms i) → Deferred d ≡ (at ms i).answer c t h f → T2 ≡ T3
+  pub kept-deferred : (d : DeferredEstimate) (T3 : Bounded Slot 8) → true ≡ competes ms k h (at ms i) → Deferred d ≡ (at ms i).answer c t h f → T2 ≡ T3
       → slots_of T3 ≡ slots_of T ++ (record { scheme = i; estimate = d } ∷ []) → b2 ≡ b → Kept c t h f ms k (i + 1) T2 b2 w
   kept-deferred d T3 e ea e3 es eb =
       let n = inv.few in
       let s : Slot = record { scheme = i; estimate = d } in
-      let more = ap length es ∙ length-append T.items (s ∷ []) in
+      let more = ap length es ∙ length-append (slots_of T) (s ∷ []) in
       let S : List Slot → Type 0 = λ y. AbleSlots ms k y in
-      let P : Bounded Slot → Type 0 = λ y. Kept c t h f ms k (i + 1) y b w in
+      let P : Bounded Slot 8 → Type 0 = λ y. Kept c t h f ms k (i + 1) y b w in
       let Q : Option Leader → Type 0 = λ y. Kept c t h f ms k (i + 1) T2 y w in
       subst Q (sym eb) (subst P (sym e3) (record {
         left = turn-deferred c t h f ms k i (deferred_of ms (slots_of T)) (best_of ms b) w lt inv.left d (deferred_of ms (slots_of T3)) e ea (ap (deferred_of ms) es ∙ deferred-more ms (slots_of T) s);

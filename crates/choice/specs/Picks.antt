@@ -4,7 +4,8 @@ use Rattle.column.specs.declared.refusals.Refusal.{Refusal}
 use Rattle.scheme.specs.declared.estimate.DeferredEstimate.{DeferredEstimate}
 use Rattle.scheme.specs.Meaning.{Meaning}
 use Rattle.scheme.specs.Banks.{at}
-use Rattle.scheme.specs.Bounded.{Bounded}
+use Rattle.scheme.specs.Bounded.{items}
+use Rattle.scheme.specs.declared.bounded.Bounded.{Bounded}
 use Rattle.levels.specs.Choice.{Best, Asked, ended, waiting, Chosen}
 use Rattle.levels.specs.NodesOf.{Able}
 use Rattle.choice.specs.declared.best.Leader.{Leader}
@@ -19,8 +20,8 @@ best_of ms None = None
 best_of ms (Some l) = Some (at ms l.scheme, l.score)
 
 -- the places that are filled
-abbrev pub slots_of : Bounded Slot → List Slot
-slots_of t = t.items
+abbrev pub slots_of : Bounded Slot 8 → List Slot
+slots_of t = items t
 
 abbrev pub deferred_of : List Meaning → List Slot → List (Meaning × DeferredEstimate)
 deferred_of ms ss = map (λ s. (at ms s.scheme, s.estimate)) ss

@@ -13,7 +13,7 @@ pub struct Slot {
 pub type Table = Bounded<Slot, 8>;
 
 // What lies in a free place.
-pub(crate) const FREE: Slot = Slot {
+pub const FREE: Slot = Slot {
     scheme: 0,
     estimate: DeferredEstimate::Sample,
 };

@@ -16,3 +16,19 @@ pub struct View<'a> {
     ghost few: { length cells.now ≤ 131072 },
     ghost worded: { length words.now ≡ words_for (length cells.now) },
 }
+
+// A kind, cells and presence words of whatever lengths, as a caller has them before anything was asked of them.
+#[derive(Clone, Copy)]
+pub struct Slices<'a> {
+    pub kind: Kind,
+    pub cells: &'a [u64],
+    pub words: &'a [u64],
+}
+
+impl<'a> Slices<'a> {
+    pub fn rows(&self) -> usize
+        ensures { result ≡ length self.now.cells.now }
+    {
+        self.cells.len()
+    }
+}

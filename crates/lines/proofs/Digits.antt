@@ -17,7 +17,7 @@ digits-some [] h = absurd (omega arith)
 digits-some (d ∷ ds) h = refl
 
 -- a number past a word stays past it
-too_large : (a : ℕ) (cs : List ℕ) → 2 ^ 64 ≤ a → word_sized (number_after a cs) ≡ None
+pub too_large : (a : ℕ) (cs : List ℕ) → 2 ^ 64 ≤ a → word_sized (number_after a cs) ≡ None
 too_large a [] h = ap (λ b. then_some b a) (le-ltb a (2 ^ 64) h)
 too_large a (c ∷ cs) h =
     elim (is_digit c) as (λ b. word_sized (cond b (number_after (a * 10 + (c - 48)) cs) None) ≡ None)
@@ -44,7 +44,7 @@ more_by : (a m : ℕ) (cs : List ℕ) (d : Bool) → Some m ≡ word_sized (cond
 more_by a m cs true e = ap (λ n. word_sized (number_after n cs)) (kept-some (ltb a (2 ^ 64)) a m e)
 more_by a m cs false e = cc
 
-digit-more : (n m c : ℕ) (cs : List ℕ) → Some m ≡ word_sized (number_after n (c ∷ [])) → word_sized (number_after m cs) ≡ word_sized (number_after n (c ∷ cs))
+pub digit-more : (n m c : ℕ) (cs : List ℕ) → Some m ≡ word_sized (number_after n (c ∷ [])) → word_sized (number_after m cs) ≡ word_sized (number_after n (c ∷ cs))
 digit-more n m c cs e = more_by (n * 10 + (c - 48)) m cs (is_digit c) e
 
 -- no digit, or a number past a word
@@ -52,7 +52,7 @@ none-by : (a : ℕ) (cs : List ℕ) (d : Bool) → None ≡ word_sized (cond d (
 none-by a cs true e = sym (too_large a cs (ltb-false a (2 ^ 64) (kept-none (ltb a (2 ^ 64)) a e)))
 none-by a cs false e = refl
 
-digit-none : (n c : ℕ) (cs : List ℕ) → None ≡ word_sized (number_after n (c ∷ [])) → None ≡ word_sized (number_after n (c ∷ cs))
+pub digit-none : (n c : ℕ) (cs : List ℕ) → None ≡ word_sized (number_after n (c ∷ [])) → None ≡ word_sized (number_after n (c ∷ cs))
 digit-none n c cs e = none-by (n * 10 + (c - 48)) cs (is_digit c) e
 
 -- ---- the fold over digits

@@ -31,7 +31,7 @@ pub fn is_comma(b: u8) -> bool
 pub fn count_commas(text: &[u8]) -> usize
     ensures { result ≡ count_by (λ c. c == comma) text.now }
 {
-    text.iter().filter(|b| is_comma(**b)).count()
+    text.iter().map(|b| usize::from(is_comma(*b))).sum()
 }
 
 fn is_named(kind: Kind, name: &[u8]) -> bool

@@ -11,11 +11,12 @@ fn low_first(v: u64) -> [u8; 8]
     v.to_le_bytes()
 }
 
-// Writes the `len` lowest bytes of `v` from `at` on.
+// Writes the `len` lowest bytes of `v` from `at` on; `get` gives `v` back, where it has no more.
 pub fn put(out: &mut [u8], at: usize, len: usize, v: u64)
     requires few { len ≤ 8 }
     requires room { at + len ≤ length out.old }
-    ensures { out.new ≡ written_at at (digits 256 len v) out.old }
+    ensures bytes { out.new ≡ written_at at (digits 256 len v) out.old }
+    ensures back { v < 256 ^ len → joined 256 (take len (drop at out.new)) ≡ v }
 {
     out[at..at + len].copy_from_slice(&low_first(v)[..len]);
 }

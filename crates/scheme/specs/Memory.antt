@@ -5,7 +5,8 @@ use Rattle.column.specs.Columns.{Column, Offer, offer_of, cleaned, seen, words_f
 use Rattle.stats.specs.Stats.{Stats}
 use Rattle.stats.specs.Seen.{stats_seen, Holds}
 use Rattle.scheme.specs.Asked.{MeasuredBy}
-use Rattle.scheme.specs.Bounded.{Bounded}
+use Rattle.scheme.specs.Bounded.{items}
+use Rattle.scheme.specs.declared.bounded.Bounded.{Bounded}
 use Rattle.scheme.specs.declared.ctx.CompressorContext.{CompressorContext}
 use Rattle.scheme.specs.declared.asked.ArrayAndStats.{ArrayAndStats}
 use Rattle.scheme.specs.declared.scheme.ChildShape.{ChildShape}
@@ -19,8 +20,8 @@ abbrev pub spare : ℕ → ℕ
 spare n = 4 * n + 256
 
 -- the history of a context
-abbrev pub entries_of : Bounded (ℕ × ℕ) → History
-entries_of h = h.items
+abbrev pub entries_of : Bounded (ℕ × ℕ) 8 → History
+entries_of h = items h
 
 abbrev pub history_of : CompressorContext → History
 history_of c = entries_of c.cascade_history

@@ -1,41 +1,36 @@
 // A list of few items that needs no heap.
-ghost use Rattle.std.specs.Prelude.{◌≡◌, ◌<◌, ◌≤◌, [], ◌∷◌, ◌++◌, length};
+ghost use Rattle.std.specs.Prelude.{◌≡◌, ◌<◌, ◌≤◌, [], ◌∷◌, ◌++◌, length, ⊤};
 
-use std::marker::Model;
+use std::alloc::AllocError;
 
 // At most `N` items, which lie in the value itself; a filler stands in each free place.
-// Not the library's `ArrayVec`: that one is not `Copy`, which contexts are, and wants items with a `Default`.
-#[derive(Clone, Copy)]
+// Not the library's `ArrayVec`: that one is not `Copy`, which contexts are, and wants items with a `Default`. No `Model`: what holds a
+// struct with one is not copied when it is passed by value, as a context is.
 pub struct Bounded<T, const N: usize> {
-    places: [T; N],
-    len: usize,
+    pub places: [T; N],
+    pub len: usize,
+    ghost few: { len ≤ N },
+    ghost full: { length places ≡ N },
 }
 
-impl<T, const N: usize> Model for Bounded<T, N> {
-    ghost use Rattle.std.specs.Prelude.{◌≡◌, ◌≤◌, ◌++◌, length, take, drop};
-    ghost use Rattle.std.proofs.Common.{arith, take-append-drop, length-take-le};
-    ghost use Rattle.scheme.specs.Bounded.{Bounded as Items, bounded_code};
+impl<T: Copy, const N: usize> Clone for Bounded<T, N> {
+    ghost is_clone = { λ x y. y ≡ x };
 
-    ghost Value = { Items T };
+    ghost is_infallible = { λ _. ⊤ };
 
-    ghost coded = { bounded_code T.code };
-
-    ghost view = { λ b. record { items = take b.len b.places; free = drop b.len b.places } };
-
-    ghost invariant = { λ b. (b.len ≤ N) × (length b.places ≡ N) };
-
-    ghost inverse = { λ b. record { places = b.items ++ b.free; len = length b.items } };
-
-    ghost inverse_ok = { λ b h i. record {
-      places = take-append-drop b.len b.places i;
-      len = length-take-le b.len b.places (omega (arith, h.0, h.1)) i;
-    } };
+    fn clone(&self) -> Result<Bounded<T, N>, AllocError> {
+        Ok(*self)
+    }
 }
+
+impl<T: Copy, const N: usize> Copy for Bounded<T, N> {}
 
 impl<T: Copy, const N: usize> Bounded<T, N> {
+    ghost use Rattle.scheme.specs.Bounded.{items};
+
     // No item yet.
     pub fn new(filler: T) -> Self
-        ensures { result.items ≡ [] }
+        ensures { items result ≡ [] }
     {
         Bounded {
             places: [filler; N],
@@ -44,23 +39,23 @@ impl<T: Copy, const N: usize> Bounded<T, N> {
     }
 
     pub fn len(&self) -> usize
-        ensures items { result ≡ length self.now.items }
+        ensures items { result ≡ length (items self.now) }
         ensures within { result ≤ N }
     {
         self.as_slice().len()
     }
 
     pub fn as_slice(&self) -> &[T]
-        ensures items { result.now ≡ self.now.items }
-        ensures within { length self.now.items ≤ N }
+        ensures items { result.now ≡ items self.now }
+        ensures within { length (items self.now) ≤ N }
     {
         &self.places[..self.len]
     }
 
     // One more item, at the end.
     pub fn push(&mut self, item: T)
-        requires { length self.old.items < N }
-        ensures { self.new.items ≡ self.old.items ++ item ∷ [] }
+        requires { length (items self.old) < N }
+        ensures { items self.new ≡ items self.old ++ item ∷ [] }
     {
         self.places[self.len] = item;
         self.len += 1;

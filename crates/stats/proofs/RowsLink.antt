@@ -27,7 +27,7 @@ block-more {ws} {cs} {word} {block} {ws2} {cs2} n =
     let kept : kept_from word 0 block ≡ values_of (block_rows word block) = kept-rows word 0 block ∙ ap (λ z. values_of (block_rows z block)) (div-one word) in
     ap values_of (next-rows n) ∙ values-append (block_rows word block) (word_rows ws2 cs2) ∙ ap (λ z. z ++ shown ws2 cs2) (sym kept)
 
-blank-rows : (cells : List ℕ) → values_of (rows_of (digits 2 (length cells) 0) cells) ≡ []
+pub blank-rows : (cells : List ℕ) → values_of (rows_of (digits 2 (length cells) 0) cells) ≡ []
 blank-rows [] = refl
 blank-rows (c ∷ cs) = blank-rows cs
 

@@ -21,7 +21,7 @@ loop-c-preserved c =
     let h = take-cell c.loop-c.invariant.0 c.loop-c-test.true _ c.low_bits.ensures in
     elim c.if-fill-ge64.branch [
       | then-fill-ge64 w ↦ (
-        put_word h (omega arith) (omega arith) w.if-fill-ge64.true _ _ _ _ (w.out-is ∙ w.put.ensures ∙ ap (λ v. written_at c.loop-c.at (digits 256 8 v) c.loop-c.out) c.split_at-low.ensures.low) w.at-is (w.acc-is ∙ c.split_at-low.ensures.high) w.fill-is,
+        put_word h (omega arith) (omega arith) w.if-fill-ge64.true _ _ _ _ (w.out-is ∙ w.put.ensures.bytes ∙ ap (λ v. written_at c.loop-c.at (digits 256 8 v) c.loop-c.out) c.split_at-low.ensures.low) w.at-is (w.acc-is ∙ c.split_at-low.ensures.high) w.fill-is,
         omega (arith, w.fill-is),
       )
       | else-fill-ge64 w ↦ (
@@ -33,6 +33,6 @@ loop-c-preserved c =
 pub returns : goal.returns
 returns c =
     let n : c.div_ceil.result ≡ (c.loop-c.fill + 7) / 8 = omega (arith, c.div_ceil.ensures) in
-    c.put-2.ensures
+    c.put-2.ensures.bytes
     ∙ ap (λ m. written_at c.loop-c.at (digits 256 m c.loop-c.acc) c.loop-c.out) n
     ∙ held_all c.loop-c.invariant.0 (omega arith) ∙ held_none c.args.k c.args.cells.now c.args.out.now
