@@ -6,17 +6,18 @@ pub mod small;
 ghost use Rattle.std.specs.Prelude.{◌≡◌, ℕ, ◌<◌, ◌≤◌, min, true, false, List, [], ◌∷◌, length, Err};
 ghost use Rattle.scheme.specs.declared.estimate.CompressionEstimate.TheVariants.{Verdict};
 ghost use Rattle.scheme.specs.declared.estimate.EstimateVerdict.TheVariants.{Skip};
-ghost use Rattle.column.specs.Columns.{seen};
+ghost use Rattle.column.specs.Columns.{Sound, CleanView, seen};
 ghost use Rattle.column.specs.Kinds.{number_of};
 ghost use Rattle.packing.specs.Packing.{written};
 ghost use Rattle.scheme.specs.Banks.{AllKeep, at};
 ghost use Rattle.scheme.specs.Meaning.{Meaning};
-ghost use Rattle.scheme.specs.Memory.{spare, history_of, stats_in, Room, outline, shape_seen, payload_in, parts_seen, held, Joinable};
+ghost use Rattle.scheme.specs.Memory.{spare, history_of, stats_in, Measured, Room, outline, shape_seen, payload_in, parts_seen, held, Joinable};
 ghost use Rattle.scheme.specs.Rules.{push_seen, pull_seen};
 ghost use Rattle.std.proofs.Common.{rules};
 
 use column::cleaned::Cleaned;
 use column::kinds::Kind;
+use column::views::View;
 use scheme::ctx::CompressorContext;
 use scheme::estimate::{CompressionEstimate, EstimateScore, EstimateVerdict};
 use scheme::exclusion::{AncestorExclusion, DescendantExclusion};
@@ -25,7 +26,8 @@ use scheme::scheme::{ArrayAndStats, RowRefused, Scheme, Shape, Stored};
 // Every answer is that of the scheme's meaning at the number.
 // A trait, and no `&[&dyn Scheme]`: a struct that keeps a `&dyn` gets no proof yet, and no function may hand one out.
 // Each function asks for `within` itself: a checked number would hold its bank, and every call would ask that the two banks are one.
-// What is asked about the scheme's kinds and about lent memory relates two parameters each, too.
+// What is asked about the scheme's kinds and about lent memory relates two parameters each, too. What is asked of a column, its statistics or a
+// stored node stands in clauses, and not in types: an implementation has its trait's types, and `Empty` asks for nothing.
 pub trait Bank {
     ghost meanings: { Self → List Meaning };
 
@@ -65,8 +67,11 @@ pub trait Bank {
         mem: &mut [u64],
     ) -> CompressionEstimate
         requires within { i < length (meanings self.now) }
-        requires room { spare (length col.array.view.cells.now) ≤ length mem.old }
-        ensures { result ≡ (at (meanings self.now) i).answer (seen col.entry.array.view) (stats_in col.entry) (history_of ctx.now) ctx.now.is_sample };
+        requires sound { Sound col.array }
+        requires clean { CleanView col.array }
+        requires measured { Measured col }
+        requires room { spare (length col.array.cells.now) ≤ length mem.old }
+        ensures { result ≡ (at (meanings self.now) i).answer (seen col.entry.array) (stats_in col.entry) (history_of ctx.now) ctx.now.is_sample };
 
     fn verdict_at(
         &self,
@@ -77,13 +82,16 @@ pub trait Bank {
         mem: &mut [u64],
     ) -> EstimateVerdict
         requires within { i < length (meanings self.now) }
-        requires room { spare (length col.array.view.cells.now) ≤ length mem.old }
-        ensures { result ≡ (at (meanings self.now) i).verdict (seen col.entry.array.view) (stats_in col.entry) (history_of ctx.now) ctx.now.is_sample mark };
+        requires sound { Sound col.array }
+        requires clean { CleanView col.array }
+        requires measured { Measured col }
+        requires room { spare (length col.array.cells.now) ≤ length mem.old }
+        ensures { result ≡ (at (meanings self.now) i).verdict (seen col.entry.array) (stats_in col.entry) (history_of ctx.now) ctx.now.is_sample mark };
 
     fn shape_at(
         &self,
         i: usize,
-        array: Cleaned<'_>,
+        array: View<'_>,
         cells0: &mut [u64],
         words0: &mut [u64],
         cells1: &mut [u64],
@@ -91,16 +99,20 @@ pub trait Bank {
         mem: &mut [u64],
     ) -> Result<Shape, RowRefused>
         requires within { i < length (meanings self.now) }
-        requires kind { (at (meanings self.now) i).takes (number_of array.view.kind) ≡ true }
-        requires room { Room (length array.view.cells.now) cells0.old words0.old cells1.old words1.old mem.old }
-        ensures { shape_seen (at (meanings self.now) i).child_count result cells0.new words0.new cells1.new words1.new ≡ outline ((at (meanings self.now) i).parts (seen array.entry.view)) };
+        requires sound { Sound array }
+        requires clean { CleanView array }
+        requires kind { (at (meanings self.now) i).takes (number_of array.kind) ≡ true }
+        requires room { Room (length array.cells.now) cells0.old words0.old cells1.old words1.old mem.old }
+        ensures { shape_seen (at (meanings self.now) i).child_count result cells0.new words0.new cells1.new words1.new ≡ outline ((at (meanings self.now) i).parts (seen array.entry)) };
 
-    fn payload_at(&self, i: usize, array: Cleaned<'_>, mem: &mut [u64], out: &mut [u8])
+    fn payload_at(&self, i: usize, array: View<'_>, mem: &mut [u64], out: &mut [u8])
         requires within { i < length (meanings self.now) }
-        requires kind { (at (meanings self.now) i).takes (number_of array.view.kind) ≡ true }
-        requires spared { spare (length array.view.cells.now) ≤ length mem.old }
-        requires room { length (payload_in ((at (meanings self.now) i).parts (seen array.view))) ≤ length out.old }
-        ensures { out.new ≡ written (payload_in ((at (meanings self.now) i).parts (seen array.entry.view))) out.old };
+        requires sound { Sound array }
+        requires clean { CleanView array }
+        requires kind { (at (meanings self.now) i).takes (number_of array.kind) ≡ true }
+        requires spared { spare (length array.cells.now) ≤ length mem.old }
+        requires room { length (payload_in ((at (meanings self.now) i).parts (seen array))) ≤ length out.old }
+        ensures { out.new ≡ written (payload_in ((at (meanings self.now) i).parts (seen array.entry))) out.old };
 
     fn join_at(
         &self,
@@ -168,78 +180,8 @@ impl Bank for Empty {
 
     fn expected_compression_ratio_at(
         &self,
-        i: usize,
-        col: ArrayAndStats<'_>,
-        ctx: &CompressorContext,
-        mem: &mut [u64],
-    ) -> CompressionEstimate
-        ensures answer { result ≡ Verdict Skip }
-        ensures lent { mem.new ≡ mem.old }
-    {
-        Empty::expected_compression_ratio_at(self, i, col, ctx, mem)
-    }
-
-    fn verdict_at(
-        &self,
-        i: usize,
-        col: ArrayAndStats<'_>,
-        ctx: &CompressorContext,
-        mark: Option<EstimateScore>,
-        mem: &mut [u64],
-    ) -> EstimateVerdict
-        ensures answer { result ≡ Skip }
-        ensures lent { mem.new ≡ mem.old }
-    {
-        Empty::verdict_at(self, i, col, ctx, mark, mem)
-    }
-
-    fn shape_at(
-        &self,
-        i: usize,
-        array: Cleaned<'_>,
-        cells0: &mut [u64],
-        words0: &mut [u64],
-        cells1: &mut [u64],
-        words1: &mut [u64],
-        mem: &mut [u64],
-    ) -> Result<Shape, RowRefused>
-        ensures answer { result ≡ Err (record { row = 0 }) }
-        ensures child0 { (cells0.new ≡ cells0.old) × (words0.new ≡ words0.old) }
-        ensures child1 { (cells1.new ≡ cells1.old) × (words1.new ≡ words1.old) }
-        ensures lent { mem.new ≡ mem.old }
-    {
-        Empty::shape_at(self, i, array, cells0, words0, cells1, words1, mem)
-    }
-
-    fn payload_at(&self, i: usize, array: Cleaned<'_>, mem: &mut [u64], out: &mut [u8])
-        ensures bytes { out.new ≡ out.old }
-        ensures lent { mem.new ≡ mem.old }
-    {
-        Empty::payload_at(self, i, array, mem, out);
-    }
-
-    fn join_at(
-        &self,
-        i: usize,
-        stored: Stored<'_>,
-        mem: &mut [u64],
-        cells: &mut [u64],
-        words: &mut [u64],
-    )
-        ensures rows { (cells.new ≡ cells.old) × (words.new ≡ words.old) }
-        ensures lent { mem.new ≡ mem.old }
-    {
-        Empty::join_at(self, i, stored, mem, cells, words);
-    }
-}
-
-// Whatever stands in the place of a column, its statistics or a stored node: nothing is asked of it, not even what the types of a bank's
-// functions say of theirs.
-impl Empty {
-    pub fn expected_compression_ratio_at<C: Drop>(
-        &self,
         _i: usize,
-        _col: C,
+        _col: ArrayAndStats<'_>,
         _ctx: &CompressorContext,
         mem: &mut [u64],
     ) -> CompressionEstimate
@@ -249,10 +191,10 @@ impl Empty {
         CompressionEstimate::Verdict(EstimateVerdict::Skip)
     }
 
-    pub fn verdict_at<C: Drop>(
+    fn verdict_at(
         &self,
         _i: usize,
-        _col: C,
+        _col: ArrayAndStats<'_>,
         _ctx: &CompressorContext,
         _mark: Option<EstimateScore>,
         mem: &mut [u64],
@@ -263,10 +205,10 @@ impl Empty {
         EstimateVerdict::Skip
     }
 
-    pub fn shape_at<A: Drop>(
+    fn shape_at(
         &self,
         _i: usize,
-        _array: A,
+        _array: View<'_>,
         cells0: &mut [u64],
         words0: &mut [u64],
         cells1: &mut [u64],
@@ -281,17 +223,17 @@ impl Empty {
         Err(RowRefused { row: 0 })
     }
 
-    pub fn payload_at<A: Drop>(&self, _i: usize, _array: A, mem: &mut [u64], out: &mut [u8])
+    fn payload_at(&self, _i: usize, _array: View<'_>, mem: &mut [u64], out: &mut [u8])
         ensures bytes { out.new ≡ out.old }
         ensures lent { mem.new ≡ mem.old }
     {
         // No byte is written.
     }
 
-    pub fn join_at<N: Drop>(
+    fn join_at(
         &self,
         _i: usize,
-        _stored: N,
+        _stored: Stored<'_>,
         mem: &mut [u64],
         cells: &mut [u64],
         words: &mut [u64],
@@ -402,7 +344,7 @@ impl<S: Scheme, B: Bank> Bank for Pair<S, B> {
     fn shape_at(
         &self,
         i: usize,
-        array: Cleaned<'_>,
+        array: View<'_>,
         cells0: &mut [u64],
         words0: &mut [u64],
         cells1: &mut [u64],
@@ -410,6 +352,7 @@ impl<S: Scheme, B: Bank> Bank for Pair<S, B> {
         mem: &mut [u64],
     ) -> Result<Shape, RowRefused> {
         if i == 0 {
+            let array = Cleaned { view: array };
             self.head.shape(array, cells0, words0, cells1, words1, mem)
         } else {
             self.rest
@@ -417,9 +360,9 @@ impl<S: Scheme, B: Bank> Bank for Pair<S, B> {
         }
     }
 
-    fn payload_at(&self, i: usize, array: Cleaned<'_>, mem: &mut [u64], out: &mut [u8]) {
+    fn payload_at(&self, i: usize, array: View<'_>, mem: &mut [u64], out: &mut [u8]) {
         if i == 0 {
-            self.head.payload(array, mem, out)
+            self.head.payload(Cleaned { view: array }, mem, out)
         } else {
             self.rest.payload_at(i - 1, array, mem, out)
         }
@@ -438,5 +381,84 @@ impl<S: Scheme, B: Bank> Bank for Pair<S, B> {
         } else {
             self.rest.join_at(i - 1, stored, mem, cells, words)
         }
+    }
+}
+
+#[cfg(test)]
+mod tests {
+    use super::*;
+    use stats::integer::IntegerStats;
+    use stats::options::GenerateStatsOptions;
+
+    // A column with no presence word for its rows.
+    const VIEW: View<'static> = View {
+        kind: Kind::U8,
+        cells: &[1, 2, 3],
+        words: &[],
+    };
+
+    // Statistics of another column, and no table; a node of more rows than a column may have. An empty bank is asked about them all.
+    #[test]
+    fn empty_asks_for_nothing(rt: HostRuntime) {
+        let other = View {
+            kind: Kind::U16,
+            cells: &[],
+            words: &[],
+        };
+        let opts = GenerateStatsOptions {
+            count_distinct_values: false,
+        };
+        let stats = IntegerStats::generate_opts(other, opts, &mut [0; 64]);
+        let col = ArrayAndStats {
+            array: VIEW,
+            stats: &stats,
+            table: &[],
+        };
+        let ctx = CompressorContext::new(1);
+        let estimate = <Empty as Bank>::expected_compression_ratio_at(
+            &Empty {},
+            5,
+            col,
+            &ctx,
+            &mut [],
+        );
+        let CompressionEstimate::Verdict(first) = estimate else {
+            unreachable!()
+        };
+        assert!(rt; matches!(first, EstimateVerdict::Skip));
+        let verdict = <Empty as Bank>::verdict_at(&Empty {}, 5, col, &ctx, None, &mut []);
+        assert!(rt; matches!(verdict, EstimateVerdict::Skip));
+    }
+
+    #[test]
+    fn empty_writes_nothing(rt: HostRuntime) {
+        let shape = <Empty as Bank>::shape_at(
+            &Empty {},
+            5,
+            VIEW,
+            &mut [],
+            &mut [],
+            &mut [],
+            &mut [],
+            &mut [],
+        );
+        assert!(rt; shape.is_err());
+        let mut out = [7; 2];
+        <Empty as Bank>::payload_at(&Empty {}, 5, VIEW, &mut [], &mut out);
+        assert_eq!(rt; out, [7; 2]);
+        let stored = Stored {
+            kind: Kind::U8,
+            rows: 1_000_000,
+            payload: &[],
+            cell_bits: 0,
+            flag: 0,
+            child0: VIEW,
+            child1: VIEW,
+        };
+        let mut cells = [7; 2];
+        let mut words = [7; 2];
+        <Empty as Bank>::join_at(&Empty {}, 5, stored, &mut [], &mut cells, &mut words);
+        assert_eq!(rt; cells, [7; 2]);
+        assert_eq!(rt; words, [7; 2]);
     }
 }

@@ -34,7 +34,7 @@ choice_at ms d x c = choice ms d (below_at ms d x) c (history_of x) x.is_sample
 
 -- what a deferred scheme comes to, and how well the scheme of number i does on a sample
 abbrev pub late_at : List Meaning → Source → CompressorContext → ArrayAndStats → Late
-late_at ms d x a = late d (below_at ms d x) (seen a.array.view) (stats_in a) (history_of x) x.is_sample
+late_at ms d x a = late d (below_at ms d x) (seen a.array) (stats_in a) (history_of x) x.is_sample
 
 abbrev pub score_at : List Meaning → Source → CompressorContext → ℕ → Column → Result EstimateVerdict Refusal
 score_at ms d x i c = scored (below_at ms d x) (history_of x) (at ms i) (sample_of d x.is_sample c)

@@ -4,14 +4,14 @@ ghost use Rattle.cascade.specs.Places.{bound_at, choice_at, competed_at, late_at
 ghost use Rattle.cascade.specs.Rooms.{choice_room, scheme_room, score_room};
 ghost use Rattle.cascade.specs.Sizes.{Planned, sized};
 ghost use Rattle.choice.specs.Picks.{AbleLeader, AblePick, AbleSlots, best_of, deferred_of, named, slots_of};
-ghost use Rattle.column.specs.Columns.{seen};
+ghost use Rattle.column.specs.Columns.{Sound, CleanView, seen};
 ghost use Rattle.column.specs.Kinds.{number_of};
 ghost use Rattle.column.specs.declared.refusals.Refusal.TheVariants.{SchemeRefused};
 ghost use Rattle.levels.specs.Choice.{decided};
 ghost use Rattle.levels.specs.NodesOf.{Able};
 ghost use Rattle.levels.specs.Plans.{places, room};
 ghost use Rattle.scheme.specs.Banks.{at};
-ghost use Rattle.scheme.specs.Memory.{history_of};
+ghost use Rattle.scheme.specs.Memory.{history_of, Measured};
 
 use crate::leaf::Leaf;
 use crate::sampled::sampled;
@@ -107,7 +107,7 @@ fn choose_best_scheme<B: Bank, D: Draws + Drop>(
     let (table, rest) = mem.split_at_mut(2 * array.view.rows() + 64);
     let stats = IntegerStats::generate_opts(array.view, opts, table);
     let col = ArrayAndStats {
-        array,
+        array: array.view,
         stats: &stats,
         table,
     };
@@ -132,12 +132,15 @@ fn decide<B: Bank, D: Draws + Drop>(
 ) -> Result<Option<usize>, Refusal>
     requires level { 0 < ctx.now.allowed_cascading }
     requires deep { length (history_of ctx.now) + ctx.now.allowed_cascading ≤ 8 }
-    requires leader { AbleLeader (B.Bank.meanings bank.now.schemes.now) (number_of col.array.view.kind) best }
-    requires slots { AbleSlots (B.Bank.meanings bank.now.schemes.now) (number_of col.array.view.kind) (slots_of waiting.now) }
+    requires sound { Sound col.array }
+    requires clean { CleanView col.array }
+    requires measured { Measured col }
+    requires leader { AbleLeader (B.Bank.meanings bank.now.schemes.now) (number_of col.array.kind) best }
+    requires slots { AbleSlots (B.Bank.meanings bank.now.schemes.now) (number_of col.array.kind) (slots_of waiting.now) }
     requires plan { places ctx.now.allowed_cascading ≤ length plan.old }
-    requires room { score_room (ctx.now.allowed_cascading - 1) (length col.array.view.cells.now) ≤ length mem.old }
+    requires room { score_room (ctx.now.allowed_cascading - 1) (length col.array.cells.now) ≤ length mem.old }
     ensures is { named (B.Bank.meanings bank.now.schemes.now) result ≡ decided (late_at (B.Bank.meanings bank.now.schemes.now) D.Draws.source ctx.now col.entry) (deferred_of (B.Bank.meanings bank.now.schemes.now) (slots_of waiting.now)) (best_of (B.Bank.meanings bank.now.schemes.now) best) }
-    ensures able { AblePick (B.Bank.meanings bank.now.schemes.now) (number_of col.entry.array.view.kind) result }
+    ensures able { AblePick (B.Bank.meanings bank.now.schemes.now) (number_of col.entry.array.kind) result }
 {
     let mut best = best;
     for slot in waiting.as_slice() {
@@ -165,16 +168,22 @@ fn late<B: Bank, D: Draws + Drop>(
 ) -> Result<EstimateVerdict, Refusal>
     requires level { 0 < ctx.now.allowed_cascading }
     requires deep { length (history_of ctx.now) + ctx.now.allowed_cascading ≤ 8 }
-    requires able { Able (B.Bank.meanings bank.now.schemes.now) (number_of col.array.view.kind) slot.scheme }
+    requires sound { Sound col.array }
+    requires clean { CleanView col.array }
+    requires measured { Measured col }
+    requires able { Able (B.Bank.meanings bank.now.schemes.now) (number_of col.array.kind) slot.scheme }
     requires plan { places ctx.now.allowed_cascading ≤ length plan.old }
-    requires room { score_room (ctx.now.allowed_cascading - 1) (length col.array.view.cells.now) ≤ length mem.old }
+    requires room { score_room (ctx.now.allowed_cascading - 1) (length col.array.cells.now) ≤ length mem.old }
     ensures { result ≡ late_at (B.Bank.meanings bank.now.schemes.now) D.Draws.source ctx.now col.entry (at (B.Bank.meanings bank.now.schemes.now) slot.scheme) slot.estimate mark }
 {
     match slot.estimate {
         DeferredEstimate::Callback => {
             Ok(bank.schemes.verdict_at(slot.scheme, col, ctx, mark, mem))
         }
-        DeferredEstimate::Sample => score::<B, D>(bank, ctx, slot.scheme, col.array, plan, mem),
+        DeferredEstimate::Sample => {
+            let array = Cleaned { view: col.array };
+            score::<B, D>(bank, ctx, slot.scheme, array, plan, mem)
+        },
     }
 }
 

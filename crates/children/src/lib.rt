@@ -72,7 +72,7 @@ pub fn take_apart<'a, B: Bank>(
     let (cells0, rest) = places.split_at_mut(rows);
     let (words0, rest) = rest.split_at_mut(count);
     let (cells1, words1) = rest.split_at_mut(rows);
-    let shape = bank.shape_at(i, array, cells0, words0, cells1, words1, mem)?;
+    let shape = bank.shape_at(i, array.view, cells0, words0, cells1, words1, mem)?;
     let num = bank.num_children_at(i);
     let children = if num == 0 {
         Children::None

@@ -6,11 +6,11 @@ pub mod table;
 
 ghost use Rattle.std.specs.Prelude.{◌≡◌, ◌≤◌, length, None};
 ghost use Rattle.choice.specs.Picks.{AbleAsked, asked_of};
-ghost use Rattle.column.specs.Columns.{seen};
+ghost use Rattle.column.specs.Columns.{Sound, CleanView, seen};
 ghost use Rattle.column.specs.Kinds.{number_of};
 ghost use Rattle.levels.specs.Choice.{asked};
 ghost use Rattle.scheme.specs.Exclusion.{eligible};
-ghost use Rattle.scheme.specs.Memory.{spare, history_of, stats_in};
+ghost use Rattle.scheme.specs.Memory.{spare, history_of, stats_in, Measured};
 
 use bank::Bank;
 use bank::small::SmallBank;
@@ -37,9 +37,12 @@ pub fn ask_all<B: Bank>(
     ctx: &CompressorContext,
     mem: &mut [u64],
 ) -> FirstPass
-    requires room { spare (length col.array.view.cells.now) ≤ length mem.old }
-    ensures is { asked_of (B.Bank.meanings bank.now.schemes.now) result ≡ asked (seen col.entry.array.view) (stats_in col.entry) (history_of ctx.now) ctx.now.is_sample (eligible (B.Bank.meanings bank.now.schemes.now) (number_of col.entry.array.view.kind) (history_of ctx.now)) None }
-    ensures able { AbleAsked (B.Bank.meanings bank.now.schemes.now) (number_of col.entry.array.view.kind) result }
+    requires sound { Sound col.array }
+    requires clean { CleanView col.array }
+    requires measured { Measured col }
+    requires room { spare (length col.array.cells.now) ≤ length mem.old }
+    ensures is { asked_of (B.Bank.meanings bank.now.schemes.now) result ≡ asked (seen col.entry.array) (stats_in col.entry) (history_of ctx.now) ctx.now.is_sample (eligible (B.Bank.meanings bank.now.schemes.now) (number_of col.entry.array.kind) (history_of ctx.now)) None }
+    ensures able { AbleAsked (B.Bank.meanings bank.now.schemes.now) (number_of col.entry.array.kind) result }
 {
     let mut best = None;
     let mut table = Bounded::new(FREE);
@@ -51,7 +54,7 @@ pub fn ask_all<B: Bank>(
             number: i,
             history: ctx.cascade_history(),
         };
-        if candidate.is_eligible(col.array.view.kind) {
+        if candidate.is_eligible(col.array.kind) {
             match bank.schemes.expected_compression_ratio_at(i, col, ctx, mem) {
                 CompressionEstimate::Verdict(EstimateVerdict::Skip) => {}
                 CompressionEstimate::Verdict(EstimateVerdict::AlwaysUse) => {

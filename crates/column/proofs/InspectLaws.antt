@@ -154,11 +154,13 @@ shown o k e g none v w =
     let n : o.kind ≡ number_of k = known-is o.kind k e in
     let right = shape-right (length o.cells) o.words g in
     let free = refused-stray o (known-few o.kind k e) right None (ap (λ z. stray_from z 0 (offered o)) n ∙ none) in
+    let cells : v.cells.now ≡ o.cells = ap (λ (p : Offer). p.cells) w in
+    let words : v.words.now ≡ o.words = ap (λ (p : Offer). p.words) w in
     let same : offer_seen v ≡ o = w ∙ (λ i. record { kind = sym n i; cells = o.cells; words = o.words }) in
     record {
       unrefused = free;
       same = same;
-      sound = record { few = v.few; words = v.worded };
+      sound = record { few = subst (λ cs. length cs ≤ 131072) (sym cells) right.few; words = ap length words ∙ right.words ∙ ap (λ cs. words_for (length cs)) (sym cells) };
       clean = subst (λ p. Clean (cleaned p)) (sym same) (unrefused o free);
     }
 

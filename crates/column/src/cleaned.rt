@@ -1,5 +1,5 @@
 // A cleaned column as slices lend it.
-ghost use Rattle.column.specs.Columns.{CleanView};
+ghost use Rattle.column.specs.Columns.{Sound, CleanView};
 
 use crate::views::View;
 
@@ -7,5 +7,6 @@ use crate::views::View;
 #[derive(Clone, Copy)]
 pub struct Cleaned<'a> {
     pub view: View<'a>,
+    ghost sound: { Sound view },
     ghost clean: { CleanView view },
 }

@@ -2,7 +2,7 @@
 ghost use Rattle.std.specs.Prelude.{◌≡◌, ◌-◌, ◌^◌, ◌<◌, ◌≤◌, not, length, take, None, nat_lt, slice_index_or};
 ghost use Rattle.packing.specs.Packing.{written};
 ghost use Rattle.column.specs.Kinds.{number_of};
-ghost use Rattle.column.specs.Columns.{seen, cells as cells_of, has_blank, stray_from, words_wrong, or_else};
+ghost use Rattle.column.specs.Columns.{Sound, seen, cells as cells_of, has_blank, stray_from, words_wrong, or_else};
 ghost use Rattle.column.specs.Views.{is_value, block_rows, unless, Inspected, Hidden, Again};
 ghost use Rattle.column.specs.Words.{bit, words_for};
 
@@ -37,6 +37,7 @@ impl<'a> View<'a> {
     }
 
     pub fn is_present(&self, row: usize) -> bool
+        requires sound { Sound self.now }
         requires within { row < length self.now.cells.now }
         ensures { result ≡ is_value (slice_index_or (seen self.now).rows row None) }
     {
@@ -46,6 +47,7 @@ impl<'a> View<'a> {
 
     // A block at a time; spare bits of the last word do not matter.
     pub fn has_blank(&self) -> bool
+        requires sound { Sound self.now }
         ensures { result ≡ has_blank (seen self.now).rows }
     {
         // Not `any`: tried, and its closure does not know that a chunk has at most 64 cells.
@@ -60,6 +62,7 @@ impl<'a> View<'a> {
 
     // Each row's cell, 0 under each blank, at the front of `out`.
     pub fn clean(&self, out: &mut [u64])
+        requires sound { Sound self.now }
         requires room { length self.now.cells.now ≤ length out.old }
         ensures written { out.new ≡ written (cells_of (seen self.now).rows) out.old }
         ensures again { Again self.now (take (length self.now.cells.now) out.new) }
@@ -73,6 +76,7 @@ impl<'a> View<'a> {
 
     // The first row with a value outside the kind.
     fn first_stray(&self) -> Option<u32>
+        requires sound { Sound self.now }
         ensures { result ≡ stray_from (number_of self.now.kind) 0 (seen self.now).rows }
     {
         // Not `find_map`: as at `has_blank`.
@@ -126,4 +130,20 @@ pub fn is_set(word: u64, i: usize) -> bool
     ensures { result ≡ bit word i }
 {
     (word >> i) % 2 == 1
+}
+
+#[cfg(test)]
+mod tests {
+    use super::*;
+
+    // The rows are the cells, whatever the presence words are.
+    #[test]
+    fn rows_without_words(rt: HostRuntime) {
+        let view = View {
+            kind: Kind::U8,
+            cells: &[1, 2, 3],
+            words: &[],
+        };
+        assert_eq!(rt; view.rows(), 3);
+    }
 }

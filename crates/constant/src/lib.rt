@@ -1,7 +1,7 @@
 // Columns with one value only.
 #![tactic(auto)]
 
-ghost use Rattle.column.specs.Columns.{seen, values};
+ghost use Rattle.column.specs.Columns.{Sound, seen, values};
 ghost use Rattle.constant.specs.Constants.{all_equal_to, constantly, first_value};
 ghost use Rattle.std.specs.Prelude.{◌≡◌};
 
@@ -9,6 +9,7 @@ use column::views::View;
 
 // The first value, if there is one.
 pub fn first_value(view: View<'_>) -> Option<u64>
+    requires sound { Sound view }
     ensures { result ≡ first_value (values (seen view.entry)) }
 {
     view.cells
@@ -19,6 +20,7 @@ pub fn first_value(view: View<'_>) -> Option<u64>
 
 // Whether no value differs from `value`; most rows are settled by their cell alone.
 fn all_equal_to(view: View<'_>, value: u64) -> bool
+    requires sound { Sound view }
     ensures { result ≡ all_equal_to value (values (seen view.entry)) }
 {
     view.cells
@@ -29,6 +31,7 @@ fn all_equal_to(view: View<'_>, value: u64) -> bool
 
 // Whether there is a value and no other differs from it.
 pub fn is_constant_for_compression(view: View<'_>) -> bool
+    requires sound { Sound view }
     ensures { result ≡ constantly (values (seen view.entry)) }
 {
     // Not `is_some_and`: tried, and the proof did not find that its closure answers what `all_equal_to` does.

@@ -1,6 +1,6 @@
 // Values and their places among the distinct ones.
 ghost use Rattle.std.specs.Prelude.{◌≡◌, ◌+◌, ◌*◌, ◌<◌, ◌≤◌, map, length, take, nat_lt};
-ghost use Rattle.column.specs.Columns.{cells as cells_of, seen, values};
+ghost use Rattle.column.specs.Columns.{Sound, cells as cells_of, seen, values};
 ghost use Rattle.column.specs.Kinds.{key, number_of};
 ghost use Rattle.dict.specs.Dict.{Known, distinct_values, code_row, decoded_cells, place_of};
 ghost use Rattle.stats.specs.Laws.{Ascends};
@@ -13,6 +13,7 @@ use stats::options::GenerateStatsOptions;
 
 // The distinct values, ascending, to the front of `out`; how many they are.
 pub fn list_distinct(array: View<'_>, out: &mut [u64], mem: &mut [u64]) -> usize
+    requires sound { Sound array }
     requires room { length array.cells.now ≤ length out.old }
     requires spared { 2 * length array.cells.now + 64 ≤ length mem.old }
     ensures front { take result out.new ≡ distinct_values (seen array.entry) }
@@ -69,6 +70,7 @@ fn place_of(kind: Kind, distinct: &[u64], guesses: &[u64], value: u64) -> usize
 
 // The place of each row's value, 0 under blanks.
 pub fn encode(array: View<'_>, distinct: &[u64], guesses: &mut [u64], out: &mut [u64])
+    requires sound { Sound array }
     requires ascends { Ascends (number_of array.kind) distinct.now }
     requires known { Known distinct.now (values (seen array)) }
     requires room { length out.old ≡ length array.cells.now }

@@ -60,7 +60,7 @@ impl Scheme for IntDictScheme {
         _ctx: &CompressorContext,
         _mem: &mut [u64],
     ) -> CompressionEstimate {
-        CompressionEstimate::Verdict(estimate(col.array.view.kind, col.stats))
+        CompressionEstimate::Verdict(estimate(col.array.kind, col.stats))
     }
 
     fn verdict(

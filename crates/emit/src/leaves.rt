@@ -1,6 +1,6 @@
 // Nodes without a scheme.
 ghost use Rattle.std.specs.Prelude.{◌≡◌, ◌≤◌, length};
-ghost use Rattle.column.specs.Columns.{seen, values};
+ghost use Rattle.column.specs.Columns.{Sound, seen, values};
 ghost use Rattle.column.specs.Kinds.{number_of, width};
 ghost use Rattle.emit.specs.Emitted.{Emitted};
 ghost use Rattle.node.specs.Nodes.{OneValue, whole, plain_node, constant_node, blank_node};
@@ -62,7 +62,8 @@ pub fn emit_constant(array: Cleaned<'_>, out: &mut [u8]) -> Written
 }
 
 pub fn emit_blank(view: View<'_>, out: &mut [u8]) -> Written
-    requires { whole (blank_node (seen view)) ≤ length out.old }
+    requires sound { Sound view }
+    requires room { whole (blank_node (seen view)) ≤ length out.old }
     ensures { Emitted (blank_node (seen view.entry)) result out.old out.new }
 {
     let head = Head {

@@ -90,7 +90,7 @@ fn emit_scheme<B: Bank>(
     let Ok(apart) = take_apart(schemes, number, array, places, rest) else {
         unreachable!()
     };
-    schemes.payload_at(number, array, rest, &mut out[HEAD_SIZE..]);
+    schemes.payload_at(number, array.view, rest, &mut out[HEAD_SIZE..]);
     let start = HEAD_SIZE + apart.payload;
     let below = emit_children(bank, apart.children, &plan[1..], rest, &mut out[start..]);
     let head = Head {

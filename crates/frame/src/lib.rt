@@ -72,7 +72,7 @@ impl Scheme for FrameScheme {
         mark: Option<EstimateScore>,
         _mem: &mut [u64],
     ) -> EstimateVerdict {
-        let kind = col.array.view.kind;
+        let kind = col.array.kind;
         let bits = bits_needed(kind, col.stats);
         unmarked(kind.width(), bits).under_mark(mark)
     }

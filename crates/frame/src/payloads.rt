@@ -77,6 +77,7 @@ fn add_to_each(least: u64, cells: &mut [u64])
 // Fills `cells` and `words` from the distances and the mask that follow the least value.
 // The places stay two slices, as `join` is given them: a clause sees a struct of two `&mut` by position alone.
 pub fn read_values(stored: Stored<'_>, least: u64, cells: &mut [u64], words: &mut [u64])
+    requires few { stored.rows ≤ 131072 }
     requires cells { length cells.old ≡ stored.rows }
     requires words { length words.old ≡ words_for stored.rows }
     ensures { held (number_of stored.entry.kind) cells.new words.new ≡ record { kind = number_of stored.entry.kind; rows = frame_rows stored.entry.rows (min stored.entry.cell_bits 64) stored.entry.flag least (drop (packed_len (width (number_of stored.entry.kind)) 1) stored.entry.payload.now) } }

@@ -1,6 +1,6 @@
 // What a column's values are measured from.
 ghost use Rattle.std.specs.Prelude.{◌≡◌, ◌+◌, ◌*◌, ◌≤◌, [], length};
-ghost use Rattle.column.specs.Columns.{seen, values};
+ghost use Rattle.column.specs.Columns.{Sound, seen, values};
 ghost use Rattle.column.specs.Kinds.{number_of};
 ghost use Rattle.frame.specs.Frame.{frame_bits, base, column_bits};
 ghost use Rattle.stats.specs.Seen.{stats_seen};
@@ -30,6 +30,7 @@ pub struct Reference {
 
 impl Reference {
     pub fn of(array: View<'_>, mem: &mut [u64]) -> Reference
+        requires sound { Sound array }
         requires room { 2 * length array.cells.now + 64 ≤ length mem.old }
         ensures least { result.least ≡ base (number_of array.entry.kind) (values (seen array.entry)) }
         ensures bits { result.bits ≡ column_bits (seen array.entry) }

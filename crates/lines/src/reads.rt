@@ -1,6 +1,6 @@
 // Reading a line.
 ghost use Rattle.std.specs.Prelude.{◌≡◌};
-ghost use Rattle.column.specs.Columns.{Column, Clean, offer_seen};
+ghost use Rattle.column.specs.Columns.{Column, Sound, Clean, offer_seen};
 ghost use Rattle.lines.specs.Answers.{Reads, Back};
 ghost use Rattle.lines.specs.Held.{held};
 ghost use Rattle.lines.specs.Lines.{line_of};
@@ -14,7 +14,8 @@ use std::alloc::Global;
 
 impl LineColumn {
     pub fn view(&self) -> View<'_>
-        ensures { offer_seen result ≡ held self.now }
+        ensures same { offer_seen result ≡ held self.now }
+        ensures sound { Sound result }
     {
         View {
             kind: self.kind,

@@ -1,6 +1,6 @@
 // How far a column extends: what the lengths of payloads depend on.
 ghost use Rattle.std.specs.Prelude.{◌≡◌, ◌+◌, ◌<◌, ◌≤◌, List, length};
-ghost use Rattle.column.specs.Columns.{Row, Column, has_blank, seen, values};
+ghost use Rattle.column.specs.Columns.{Row, Column, Sound, has_blank, seen, values};
 ghost use Rattle.column.specs.Kinds.{number_of, width};
 ghost use Rattle.node.specs.Payloads.{mask, mask_len, plain_payload, plain_len, constant_payload, constant_len};
 ghost use Rattle.packing.specs.Packing.{packed_len};
@@ -20,6 +20,7 @@ pub struct Extent {
 
 impl Extent {
     pub fn of(view: View<'_>) -> Extent
+        requires sound { Sound view }
         ensures kind { result.kind ≡ view.entry.kind }
         ensures rows { result.rows ≡ length (seen view.entry).rows }
         ensures has_blank { result.has_blank ≡ has_blank (seen view.entry).rows }

@@ -1,6 +1,6 @@
 // The payloads of nodes without a scheme, and masks, which schemes use too.
 ghost use Rattle.std.specs.Prelude.{◌≡◌, ◌^◌, ◌≤◌, [], ◌∷◌, ◌++◌, length};
-ghost use Rattle.column.specs.Columns.{seen, values};
+ghost use Rattle.column.specs.Columns.{Sound, seen, values};
 ghost use Rattle.column.specs.Kinds.{number_of, width};
 ghost use Rattle.node.specs.Payloads.{mask, at_width, plain_payload, first_of, constant_payload};
 ghost use Rattle.packing.specs.Packing.{joined, digits, packed_len, written};
@@ -22,6 +22,7 @@ pub fn write_mask(array: Cleaned<'_>, out: &mut [u8])
 
 // The first bits of the words, one a row, as bytes.
 fn put_bits(view: View<'_>, out: &mut [u8])
+    requires sound { Sound view }
     requires room { packed_len 1 (length view.cells.now) ≤ length out.old }
     ensures { out.new ≡ written (digits 256 (packed_len 1 (length view.entry.cells.now)) (joined (2 ^ 64) view.entry.words.now)) out.old }
 {

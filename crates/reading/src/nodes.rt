@@ -1,6 +1,6 @@
 // Nodes, each by its form and over its children.
 ghost use Rattle.std.specs.Prelude.{◌≡◌, ◌<◌, ◌≤◌, length};
-ghost use Rattle.column.specs.Columns.{seen, words_for};
+ghost use Rattle.column.specs.Columns.{Sound, seen, words_for};
 ghost use Rattle.levels.specs.Plans.{share};
 ghost use Rattle.scheme.specs.Memory.{parts_seen};
 ghost use Rattle.reading.specs.Places.{rows_fit, parts_read, NodeIn, NodeBack, SchemeIn, SchemeBack, ChildrenIn, ChildrenBack};
@@ -29,10 +29,17 @@ pub(crate) struct Own<'a> {
 
 impl<'a> Own<'a> {
     fn stored(self, child0: View<'a>, child1: View<'a>) -> Stored<'a>
+        requires child0 { Sound child0 }
+        requires child1 { Sound child1 }
         requires short0 { length child0.cells.now ≤ self.read.rows }
         requires short1 { length child1.cells.now ≤ self.read.rows }
         ensures kind { result.kind ≡ self.entry.read.kind }
         ensures rows { result.rows ≡ self.entry.read.rows }
+        ensures few { result.rows ≤ 131072 }
+        ensures child0 { Sound result.child0 }
+        ensures child1 { Sound result.child1 }
+        ensures short0 { length result.child0.cells.now ≤ result.rows }
+        ensures short1 { length result.child1.cells.now ≤ result.rows }
         ensures parts { parts_seen 2 result ≡ parts_read self.entry (seen child0.entry) (seen child1.entry) }
     {
         Stored {

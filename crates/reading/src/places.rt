@@ -1,6 +1,6 @@
 // Rows in lent places.
 ghost use Rattle.std.specs.Prelude.{◌≡◌, ◌≤◌, length};
-ghost use Rattle.column.specs.Columns.{offer_seen, words_for};
+ghost use Rattle.column.specs.Columns.{Sound, offer_seen, words_for};
 ghost use Rattle.reading.specs.Places.{offer_read};
 
 use crate::restored::Restored;
@@ -25,6 +25,7 @@ impl Restored {
         requires words { words_for self.rows ≤ length words.now }
         ensures is { offer_seen result ≡ offer_read self cells.entry.now words.entry.now }
         ensures rows { length result.cells.now ≡ self.rows }
+        ensures sound { Sound result }
     {
         View {
             kind: self.kind,

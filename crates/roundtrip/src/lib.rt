@@ -3,7 +3,7 @@
 
 ghost use Rattle.std.specs.Prelude.{◌≡◌, ◌+◌, ◌*◌, ◌≤◌, true, length};
 ghost use Rattle.roundtrip.specs.Trips.{child_rows, child_offer, gathered, Returned};
-ghost use Rattle.column.specs.Columns.{offer_seen, seen, words_for};
+ghost use Rattle.column.specs.Columns.{Sound, offer_seen, seen, words_for};
 ghost use Rattle.column.specs.Kinds.{number_of};
 ghost use Rattle.scheme.specs.Memory.{Room, spare, held};
 
@@ -20,6 +20,7 @@ fn child_in<'a>(child: Option<ChildShape>, cells: &'a [u64], words: &'a [u64]) -
     requires words { words_for (child_rows child) ≤ length words.now }
     ensures is { offer_seen result ≡ child_offer child cells.entry.now words.entry.now }
     ensures rows { length result.cells.now ≡ child_rows child }
+    ensures sound { Sound result }
 {
     match child {
         Some(ChildShape { kind, rows }) => View {

@@ -6,7 +6,7 @@ use Rattle.std.proofs.lemmas.Bool.{lt-leb}
 use Rattle.packing.specs.Packing.{joined, written, written_at}
 use Rattle.packing.proofs.Written.{written_at-none, written_at-one, written_at-++}
 use Rattle.column.specs.declared.views.View.{View}
-use Rattle.column.specs.Columns.{Row, CleanView, cell_of, cells, bits, presence, seen}
+use Rattle.column.specs.Columns.{Row, Sound, CleanView, cell_of, cells, bits, presence, seen}
 use Rattle.column.proofs.ViewLaws.{view-words}
 use Rattle.column.proofs.WordLaws.{presence-joined}
 use Rattle.sample.specs.Draws.{Bounds, Source, Within}
@@ -118,8 +118,8 @@ after_more after ps i p s e m = m ∙ ap (λ q. after seed (bounds_of q ∷ aske
 -- ---- a view of a cleaned column
 
 -- a word for each 64 rows
-pub words-room : (v : View) → (f : ℕ) → f + 64 ≤ length v.cells.now → f + 64 ≤ 64 * length v.words.now
-words-room v f l = omega (arith, v.worded)
+pub words-room : (v : View) → Sound v → (f : ℕ) → f + 64 ≤ length v.cells.now → f + 64 ≤ 64 * length v.words.now
+words-room v s f l = omega (arith, s.words)
 
 pub word-is : (v : View) → CleanView v → (f w : ℕ) → w ≡ joined (2 ^ 64) v.words.now / 2 ^ f % 2 ^ 64 → w ≡ joined 2 (bits (take 64 (drop f (seen v).rows)))
 word-is v h f w e =

@@ -1,7 +1,7 @@
 -- How lent memory holds what a scheme is asked about and what it gives.
 use Rattle.std.specs.Prelude.{◌≡◌, ℕ, ◌+◌, ◌*◌, ◌≤◌, List, [], ◌∷◌, map, length, take, Ok, Err, Result}
 use Rattle.column.specs.Kinds.{number_of}
-use Rattle.column.specs.Columns.{Column, Offer, offer_of, cleaned, seen, words_for}
+use Rattle.column.specs.Columns.{Column, Offer, Sound, offer_of, cleaned, seen, words_for}
 use Rattle.stats.specs.Stats.{Stats}
 use Rattle.stats.specs.Seen.{stats_seen, Holds}
 use Rattle.scheme.specs.Asked.{MeasuredBy}
@@ -32,7 +32,7 @@ stats_in d = stats_seen d.stats.now d.table.now
 
 -- they are the column's own, made with or without distinct counts, and the table holds the pairs
 abbrev pub Measured : ArrayAndStats → Type 0
-Measured d = MeasuredBy d.array.view d.stats.now d.table.now × Holds d.stats.now d.table.now
+Measured d = MeasuredBy d.array d.stats.now d.table.now × Holds d.stats.now d.table.now
 
 -- lent places that the children of n rows fit into
 pub record Room (n : ℕ) (c0 w0 c1 w1 m : List ℕ) : Type 0 where
@@ -94,8 +94,13 @@ parts_seen n s = record {
 abbrev pub held : ℕ → List ℕ → List ℕ → Column
 held k cs ws = cleaned (record { kind = k; cells = cs; words = ws })
 
--- room for as many rows as the node has
+-- children of any rows, no more than the column has, and room for as many rows as it has
 pub record Joinable (s : Stored) (m cs ws : List ℕ) : Type 0 where
+  pub few : s.rows ≤ 131072
+  pub short0 : length s.child0.cells.now ≤ s.rows
+  pub short1 : length s.child1.cells.now ≤ s.rows
+  pub child0 : Sound s.child0
+  pub child1 : Sound s.child1
   pub cells : length cs ≡ s.rows
   pub words : length ws ≡ words_for s.rows
   pub spared : spare s.rows ≤ length m

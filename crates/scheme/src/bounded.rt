@@ -1,5 +1,5 @@
 // A list of few items that needs no heap.
-ghost use Rattle.std.specs.Prelude.{◌≡◌, ◌<◌, ◌≤◌, [], ◌∷◌, ◌++◌, length, ⊤};
+ghost use Rattle.std.specs.Prelude.{◌≡◌, ◌<◌, ◌≤◌, [], ◌∷◌, ◌++◌, length};
 
 use std::alloc::AllocError;
 
@@ -13,13 +13,16 @@ pub struct Bounded<T, const N: usize> {
     ghost full: { length places ≡ N },
 }
 
-impl<T: Copy, const N: usize> Clone for Bounded<T, N> {
-    ghost is_clone = { λ x y. y ≡ x };
+impl<T: Clone, const N: usize> Clone for Bounded<T, N> {
+    ghost is_clone = { λ x y. ⟦<[T; N] as Clone>⟧.is_clone x.places y.places × (y.len ≡ x.len) };
 
-    ghost is_infallible = { λ _. ⊤ };
+    ghost is_infallible = { λ x. ⟦<[T; N] as Clone>⟧.is_infallible x.places };
 
     fn clone(&self) -> Result<Bounded<T, N>, AllocError> {
-        Ok(*self)
+        Ok(Bounded {
+            places: self.places.clone()?,
+            len: self.len,
+        })
     }
 }
 

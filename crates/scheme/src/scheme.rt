@@ -1,10 +1,10 @@
 // A scheme: a way to store a column.
 ghost use Rattle.std.specs.Prelude.{◌≡◌, ◌≤◌, true, length};
-ghost use Rattle.column.specs.Columns.{seen};
+ghost use Rattle.column.specs.Columns.{Sound, CleanView, seen};
 ghost use Rattle.column.specs.Kinds.{number_of};
 ghost use Rattle.packing.specs.Packing.{written};
 ghost use Rattle.scheme.specs.Meaning.{Meaning, Keeps};
-ghost use Rattle.scheme.specs.Memory.{spare, history_of, stats_in, Room, outline, shape_seen, payload_in, parts_seen, held, Joinable};
+ghost use Rattle.scheme.specs.Memory.{spare, history_of, stats_in, Measured, Room, outline, shape_seen, payload_in, parts_seen, held, Joinable};
 ghost use Rattle.scheme.specs.Rules.{push_seen, pull_seen};
 
 pub use crate::asked::ArrayAndStats;
@@ -50,7 +50,8 @@ pub struct RowRefused {
 }
 
 // Every answer is that of the scheme's meaning, and every meaning keeps the laws. No function has a default body: it would owe its clause for
-// every meaning. What is asked about `takes` and about lent memory relates two parameters each; it is no fact of one value.
+// every meaning. What is asked about `takes` and about lent memory relates two parameters each; it is no fact of one value. Statistics and stored
+// nodes are plain values, and what is asked of them stands in clauses, since a bank hands on what it is given.
 pub trait Scheme {
     ghost meaning: { Self → Meaning };
 
@@ -80,8 +81,11 @@ pub trait Scheme {
         ctx: &CompressorContext,
         mem: &mut [u64],
     ) -> CompressionEstimate
-        requires room { spare (length col.array.view.cells.now) ≤ length mem.old }
-        ensures { result ≡ (meaning self.now).answer (seen col.entry.array.view) (stats_in col.entry) (history_of ctx.now) ctx.now.is_sample };
+        requires sound { Sound col.array }
+        requires clean { CleanView col.array }
+        requires measured { Measured col }
+        requires room { spare (length col.array.cells.now) ≤ length mem.old }
+        ensures { result ≡ (meaning self.now).answer (seen col.entry.array) (stats_in col.entry) (history_of ctx.now) ctx.now.is_sample };
 
     // A Callback's verdict; `mark` is the best score so far.
     fn verdict(
@@ -91,8 +95,11 @@ pub trait Scheme {
         mark: Option<EstimateScore>,
         mem: &mut [u64],
     ) -> EstimateVerdict
-        requires room { spare (length col.array.view.cells.now) ≤ length mem.old }
-        ensures { result ≡ (meaning self.now).verdict (seen col.entry.array.view) (stats_in col.entry) (history_of ctx.now) ctx.now.is_sample mark };
+        requires sound { Sound col.array }
+        requires clean { CleanView col.array }
+        requires measured { Measured col }
+        requires room { spare (length col.array.cells.now) ≤ length mem.old }
+        ensures { result ≡ (meaning self.now).verdict (seen col.entry.array) (stats_in col.entry) (history_of ctx.now) ctx.now.is_sample mark };
 
     // The parts of a column: sizes as the answer, children in the lent places; or the row at which they are refused.
     // The places are four slices: a clause sees a struct of `&mut` by position alone, and one behind `&mut` would have to say that they stayed.

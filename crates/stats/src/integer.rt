@@ -1,7 +1,7 @@
 // The statistics of a column of whole numbers.
 ghost use Rattle.std.specs.Prelude.{◌≡◌, ℕ, ◌+◌, ◌*◌, ◌%◌, ◌^◌, ◌<◌, ◌≤◌, List, [], length, drop};
 ghost use Rattle.column.specs.Kinds.{width as width_of, number_of};
-ghost use Rattle.column.specs.Columns.{Offer, Clean, values, cleaned, offer_seen, seen};
+ghost use Rattle.column.specs.Columns.{Offer, Sound, Clean, values, cleaned, offer_seen, seen};
 ghost use Rattle.stats.specs.Stats.{stats, distinct_count, distinct_values, distinct_counts, most_frequent, max_minus_min, min_is_zero, min_is_negative, max_ilog2, empty_stats, blank_stats};
 ghost use Rattle.stats.specs.Seen.{stats_seen, pairs, most as most_of, Holds, or_zero, count_or_zero};
 ghost use Rattle.column.specs.Views.{Alike};
@@ -37,6 +37,7 @@ pub struct IntegerStats {
 
 // The values stand at the front of the table, then the counts; 64 words after twice the rows are for the blocks.
 fn typed_int_stats(view: View<'_>, want: bool, table: &mut [u64]) -> IntegerStats
+    requires sound { Sound view }
     requires room { 2 * length view.cells.now + 64 ≤ length table.old }
     ensures stands { stats_seen result table.new ≡ stats want (seen view.entry) }
     ensures kind { result.kind ≡ view.entry.kind }
@@ -74,6 +75,7 @@ impl IntegerStats {
         opts: GenerateStatsOptions,
         table: &mut [u64],
     ) -> IntegerStats
+        requires sound { Sound view }
         requires room { 2 * length view.cells.now + 64 ≤ length table.old }
         ensures stands { stats_seen result table.new ≡ stats opts.count_distinct_values (seen view.entry) }
         ensures kind { result.kind ≡ view.entry.kind }

@@ -1,6 +1,6 @@
 // Runs of equal values, counted by blocks of 64 rows with a presence word each.
 ghost use Rattle.std.specs.Prelude.{◌≡◌, ◌+◌, ◌^◌, ◌<◌, ◌≤◌, length, if◌then◌else◌, nat_eq, slice_get};
-ghost use Rattle.column.specs.Columns.{seen, values};
+ghost use Rattle.column.specs.Columns.{Sound, seen, values};
 ghost use Rattle.column.specs.Words.{bit};
 ghost use Rattle.stats.specs.Stats.{runs as run_count, quotient};
 ghost use Rattle.stats.specs.Blocks.{kept_from, filled_from, state_after};
@@ -97,6 +97,7 @@ impl LoopState {
 
     // All blocks, with the last value carried on.
     fn count_runs(&mut self, view: View<'_>, work: &mut [u64])
+        requires sound { Sound view }
         requires room { 64 ≤ length work.old }
         requires start { self.old.runs ≤ 1 }
         ensures { self.new ≡ state_after self.old (values (seen view.entry)) }
@@ -110,6 +111,7 @@ impl LoopState {
 
 // The runs of a column's values, of which `first` starts the first.
 pub(crate) fn runs_from(view: View<'_>, first: Option<u64>, work: &mut [u64]) -> u32
+    requires sound { Sound view }
     requires room { 64 ≤ length work.old }
     requires first { first ≡ slice_get (values (seen view)) 0 }
     ensures { result ≡ run_count (values (seen view.entry)) }

@@ -1,7 +1,7 @@
 // The values of a column in row order, and their ends.
 ghost use Rattle.std.specs.Prelude.{◌≡◌, ◌+◌, ◌≤◌, ◌++◌, length, take, drop};
 ghost use Rattle.column.specs.Kinds.{number_of};
-ghost use Rattle.column.specs.Columns.{seen, values};
+ghost use Rattle.column.specs.Columns.{Sound, seen, values};
 ghost use Rattle.stats.specs.Stats.{least_of, greatest_of};
 ghost use Rattle.stats.specs.Blocks.{kept_from};
 
@@ -29,6 +29,7 @@ fn gather_block(block: Block<'_>, out: &mut [u64], at: usize) -> usize
 
 // The values at the front of `out`, and how many they are.
 pub fn gather(view: View<'_>, out: &mut [u64]) -> usize
+    requires sound { Sound view }
     requires room { length view.cells.now ≤ length out.old }
     ensures front { take result out.new ≡ values (seen view.entry) }
     ensures fits { result ≤ length view.entry.cells.now }

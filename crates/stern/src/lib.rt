@@ -111,6 +111,7 @@ impl Scheme for SternScheme {
 
 // The head of a plain node with these fields. Its form is the number that a plain head stores; the forms themselves are private to `node`.
 fn plain_head(stored: Stored<'_>) -> Head
+    requires few { stored.rows ≤ 131072 }
     ensures { result ≡ plain_head (number_of stored.entry.kind) stored.entry.cell_bits stored.entry.flag stored.entry.rows }
 {
     Head {

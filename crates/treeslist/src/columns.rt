@@ -1,5 +1,5 @@
 // Columns with chosen cells under their blanks.
-ghost use Rattle.column.specs.Columns.{cells as cells_of, offer_refused, offer_seen, offered};
+ghost use Rattle.column.specs.Columns.{Sound, cells as cells_of, offer_refused, offer_seen, offered};
 ghost use Rattle.column.specs.Kinds.{number_of};
 ghost use Rattle.column.specs.Words.{words_for};
 ghost use Rattle.std.specs.Prelude.{◌≡◌, ◌≤◌, length, None};
@@ -37,6 +37,7 @@ impl Column {
 
 // The column of a view that is not refused, cleaned into `out`, which has a place for each row.
 pub fn clean<'a>(view: View<'a>, out: &'a mut [u64]) -> Cleaned<'a>
+    requires sound { Sound view }
     requires unrefused { offer_refused (offer_seen view) ≡ None }
     requires room { length out.old ≡ length view.cells.now }
     ensures { length result.view.cells.now ≡ length view.entry.cells.now }

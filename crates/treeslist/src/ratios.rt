@@ -33,7 +33,7 @@ fn estimate(heap: Global, array: Cleaned<'_>) -> Result<CompressionEstimate, All
     let mut table = vec![in heap; 0; 2 * rows + 64]?;
     let stats = IntegerStats::generate_opts(array.view, IntDictScheme.stats_options(), &mut table);
     let col = ArrayAndStats {
-        array,
+        array: array.view,
         stats: &stats,
         table: &table,
     };

@@ -1,4 +1,6 @@
 // Bound trees.
+ghost use Rattle.column.specs.Columns.{Sound};
+
 use crate::columns::Column;
 use crate::crc::crc32;
 use anyhow::bail;
@@ -61,7 +63,9 @@ fn comes_back<B: Bank>(
     view: View<'_>,
     node: &[u8],
     mem: &mut [u64],
-) -> anyhow::Result<bool> {
+) -> anyhow::Result<bool>
+    requires sound { Sound view }
+{
     let rows = view.rows();
     let mut expected = vec![in heap; 0; rows]?;
     view.clean(&mut expected);

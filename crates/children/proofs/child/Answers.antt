@@ -1,5 +1,8 @@
-use Rattle.std.proofs.Common.{sym, ap, ◌∙◌, length-take-le, arith}
-use Rattle.column.specs.Columns.{words_for}
+use Rattle.std.proofs.Common.{◌≡◌, take, sym, ap, ◌∙◌, subst, length-take-le, arith}
+use Rattle.column.specs.Kinds.{number_of}
+use Rattle.column.specs.Columns.{Offer, Clean, CleanView, cleaned, offer_of}
+use Rattle.column.proofs.ViewLaws.{view-sound}
+use Rattle.scheme.specs.Memory.{child_seen}
 use Rattle.children.proofs.Storing.{child-lengths}
 use Rattle.children.proofs.child.Goals as goal
 
@@ -9,13 +12,16 @@ slice_bounds-view-end-2 c =
     let w = c.words_for.ensures in
     sym (length-take-le c.words_for.result c.args.words.now (let m = l.words in omega arith))
 
-pub invariant_of-view : goal.invariant_of-view
-invariant_of-view c =
-    let l = child-lengths c.args.shape c.args.cells.now c.args.words.now c.requires in
+pub invariant_of-result : goal.invariant_of-result
+invariant_of-result c =
+    let s = c.args.shape in
+    let cs = c.args.cells.now in
+    let ws = c.args.words.now in
     let w = c.words_for.ensures in
-    let n = length-take-le c.args.shape.rows c.args.cells.now l.cells in
-    let f = l.few in
-    record {
-      few = omega arith;
-      worded = length-take-le c.words_for.result c.args.words.now (let m = l.words in omega arith) ∙ w ∙ ap words_for (sym n);
-    }
+    let view : Offer = record { kind = number_of s.kind; cells = take s.rows cs; words = take c.words_for.result ws } in
+    let e : view ≡ (child_seen s cs ws).1 = λ i. record { kind = number_of s.kind; cells = take s.rows cs; words = take (w i) ws } in
+    let clean : CleanView _ = record {
+      stored = e ∙ ap (λ x. x.1) c.requires.stored ∙ ap (λ o. offer_of (cleaned o)) (sym e);
+      clean = subst (λ o. Clean (cleaned o)) (sym e) c.requires.clean;
+    } in
+    record { sound = view-sound _ clean; clean = clean }

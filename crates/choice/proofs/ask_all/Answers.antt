@@ -16,9 +16,9 @@ pub returns-in-Verdict-AlwaysUse : goal.returns-in-Verdict-AlwaysUse
 returns-in-Verdict-AlwaysUse g c =
     let ms = g.B.Bank.meanings c.args.bank.now.schemes.now in
     let lt : c.loop-i.i < length ms = omega arith in
-    let v = seen c.args.col.array.view in
+    let v = seen c.args.col.array in
     let t = stats_in c.args.col in
-    let k = number_of c.args.col.array.view.kind in
+    let k = number_of c.args.col.array.kind in
     let h = history_of c.args.ctx.now in
     let f = c.args.ctx.now.is_sample in
     let i = c.loop-i.i in
@@ -33,9 +33,9 @@ pub loop-i-preserved : goal.loop-i-preserved
 loop-i-preserved g c =
     let ms = g.B.Bank.meanings c.args.bank.now.schemes.now in
     let lt : c.loop-i.i < length ms = omega arith in
-    let v = seen c.args.col.array.view in
+    let v = seen c.args.col.array in
     let t = stats_in c.args.col in
-    let k = number_of c.args.col.array.view.kind in
+    let k = number_of c.args.col.array.kind in
     let h = history_of c.args.ctx.now in
     let f = c.args.ctx.now.is_sample in
     let i = c.loop-i.i in
@@ -64,9 +64,9 @@ pub returns : goal.returns
 returns g c =
     let ms = g.B.Bank.meanings c.args.bank.now.schemes.now in
     let ge : length ms ≤ c.loop-i.i = omega arith in
-    let v = seen c.args.col.array.view in
+    let v = seen c.args.col.array in
     let t = stats_in c.args.col in
-    let k = number_of c.args.col.array.view.kind in
+    let k = number_of c.args.col.array.kind in
     let h = history_of c.args.ctx.now in
     let f = c.args.ctx.now.is_sample in
     let goal = asked v t h f (eligible ms k h) None in

@@ -11,7 +11,7 @@ use Rattle.choice.proofs.ask_all.Given as goal
 abbrev pub invariant-loop-i : goal.invariant-loop-i
 invariant-loop-i g l =
     let ms = g.B.Bank.meanings l.bank.schemes.now in
-    let c = seen l.col.array.view in
-    let k = number_of l.col.array.view.kind in
+    let c = seen l.col.array in
+    let k = number_of l.col.array.kind in
     let h = history_of l.ctx in
     Kept c (stats_in l.col) h l.ctx.is_sample ms k l.i l.table l.best (asked c (stats_in l.col) h l.ctx.is_sample (eligible ms k h) None)

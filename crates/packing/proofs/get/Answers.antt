@@ -1,5 +1,4 @@
 use Rattle.std.proofs.Common.{◌≡◌, ◌^◌, ◌<◌, ◌++◌, length, take, drop, ap, ◌∙◌, arith}
-use native.Mathlib.Nat.{add-sub_cancel_left}
 use Rattle.std.proofs.lemmas.List.{length-take-le, length-drop}
 use Rattle.packing.specs.Packing.{joined, Below}
 use Rattle.packing.proofs.Below.{below-get_or, below-take, below-drop}
@@ -15,7 +14,7 @@ returns c =
     let bs = take n (drop at src) in
     let d = length-drop at src in
     let l : length bs ≡ n = length-take-le n (drop at src) (omega arith) in
-    let e : c.copy_from_slice.new.self ≡ bs = c.copy_from_slice.ensures.after ∙ ap (λ m. take m (drop at src)) (add-sub_cancel_left at n) in
+    let e : c.copy_from_slice.new.self ≡ bs = c.copy_from_slice.ensures.after ∙ grind arith in
     let w : c.from_le_bytes.result ≡ worth (c.copy_from_slice.new.self ++ drop n (zeros 8)) = c.from_le_bytes.ensures in
     let v = w ∙ from-part n c.copy_from_slice.new.self (ap length e ∙ l) c.requires.few ∙ ap (joined 256) e in
     let below : Below 256 bs = below-take 256 n (drop at src) (below-drop 256 at src (below-get_or 256 src (λ k. omega (arith, c.type_inv.src k)))) in

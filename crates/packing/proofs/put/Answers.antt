@@ -13,7 +13,7 @@ returns-clause-bytes c =
     let v = c.args.v in
     let out = c.args.out.now in
     let ds = digits 256 n v in
-    let e : c.copy_from_slice.new.self ≡ ds = c.copy_from_slice.ensures.after ∙ ap (take n) c.low_first.ensures ∙ take-digits n v c.requires.few in
+    let e : c.copy_from_slice.new.self ≡ ds = c.copy_from_slice.ensures.after ∙ ap (take n) (c.low_first.ensures ∙ grind arith) ∙ take-digits n v c.requires.few in
     let l : at + n - at ≡ length ds = add-sub_cancel_left at n ∙ sym (length_digits 256 n v) in
     λ i. take at out ++ (e i ++ drop (l i) (drop at out))
 

@@ -29,8 +29,8 @@ child_in-child1-requires g c =
     let h1 = short1 l c.num_children-count.ensures c.then_some-2.ensures in
     record { few = omega arith; cells = omega arith; words = omega arith }
 
-pub invariant_of-stored : goal.invariant_of-stored
-invariant_of-stored g c =
+pub join-requires : goal.join-requires
+join-requires g c =
     let m = g.S.Scheme.meaning c.args.s.now in
     let v = c.args.array.view in
     let s = c.in_ok-shape.shape in
@@ -39,7 +39,18 @@ invariant_of-stored g c =
     let e = length-offered (offer_seen v) in
     let h0 = short0 l c.num_children-count.ensures c.then_some.ensures in
     let h1 = short1 l c.num_children-count.ensures c.then_some-2.ensures in
-    record { few = v.few; short0 = omega arith; short1 = omega arith }
+    record {
+      joinable = record {
+        few = c.args.array.sound.few;
+        short0 = omega arith;
+        short1 = omega arith;
+        child0 = c.child_in-child0.ensures.sound;
+        child1 = c.child_in-child1.ensures.sound;
+        cells = c.requires.cells;
+        words = c.requires.words ∙ c.args.array.sound.words;
+        spared = omega (arith, c.requires.room.spared);
+      };
+    }
 
 pub returns : goal.returns
 returns g c =

@@ -113,7 +113,8 @@ choose_best_scheme-decide-requires g t c κs within =
     let q = c.ask_all.auto.mem in
     let rm = r.room in
     let n = c.rows.ensures in
-    (omega arith, (within.0, (within.1, (r.level, (r.deep, (a.0, (a.1, (r.plan, omega arith))))))))
+    let stats = c.generate_opts-stats.ensures in
+    (omega arith, (within.0, (within.1, (r.level, (r.deep, (c.args.array.sound, (c.args.array.clean, (((c.any_wants.result, stats.stands), stats.holds), (a.0, (a.1, (r.plan, omega arith)))))))))))
 
 pub choose_best_scheme-returns-in-Ended-clause-is : goal.choose_best_scheme-returns-in-Ended-clause-is
 choose_best_scheme-returns-in-Ended-clause-is g t c =
@@ -140,14 +141,14 @@ choose_best_scheme-returns-in-Waiting-clause-is g t c =
 pub decide-loop-slot-init : goal.decide-loop-slot-init
 decide-loop-slot-init g t c =
     let ms = g.B.Bank.meanings c.args.bank.now.schemes.now in
-    kept-first _ ms (number_of c.args.col.array.view.kind) (slots_of c.args.waiting.now) c.args.best c.requires.leader c.requires.slots
+    kept-first _ ms (number_of c.args.col.array.kind) (slots_of c.args.waiting.now) c.args.best c.requires.leader c.requires.slots
 
 pub decide-late-requires : goal.decide-late-requires
 decide-late-requires g t c κs within =
     let ms = g.B.Bank.meanings c.args.bank.now.schemes.now in
     let d = g.D.Draws.source in
-    let L = late d (levels ms d (c.args.ctx.now.allowed_cascading - 1)) (seen c.args.col.array.view) (stats_in c.args.col) (history_of c.args.ctx.now) c.args.ctx.now.is_sample in
-    let k = number_of c.args.col.array.view.kind in
+    let L = late d (levels ms d (c.args.ctx.now.allowed_cascading - 1)) (seen c.args.col.array) (stats_in c.args.col) (history_of c.args.ctx.now) c.args.ctx.now.is_sample in
+    let k = number_of c.args.col.array.kind in
     let ss = slots_of c.args.waiting.now in
     let i = c.loop-slot.slot-index in
     let b = c.loop-slot.best in
@@ -164,14 +165,14 @@ decide-late-requires g t c κs within =
     let x : Slot = record { scheme = 0; estimate = Sample } in
     let si : slice_index_or c.as_slice-slot-items.result.now i x ≡ slice_index_or ss i x = ap (λ (xs : List Slot). slice_index_or xs i x) es in
     let a = subst (λ (z : Slot). Able ms k z.scheme) (sym si) (able L ms k ss i b w inv x lt) in
-    (omega arith, (within.0, (within.1, (r.level, (r.deep, (a, (omega arith, omega arith)))))))
+    (omega arith, (within.0, (within.1, (r.level, (r.deep, (r.sound, (r.clean, (r.measured, (a, (omega arith, omega arith))))))))))
 
 pub decide-returns-in_err-late-clause-is : goal.decide-returns-in_err-late-clause-is
 decide-returns-in_err-late-clause-is g t c =
     let ms = g.B.Bank.meanings c.args.bank.now.schemes.now in
     let d = g.D.Draws.source in
-    let L = late d (levels ms d (c.args.ctx.now.allowed_cascading - 1)) (seen c.args.col.array.view) (stats_in c.args.col) (history_of c.args.ctx.now) c.args.ctx.now.is_sample in
-    let k = number_of c.args.col.array.view.kind in
+    let L = late d (levels ms d (c.args.ctx.now.allowed_cascading - 1)) (seen c.args.col.array) (stats_in c.args.col) (history_of c.args.ctx.now) c.args.ctx.now.is_sample in
+    let k = number_of c.args.col.array.kind in
     let ss = slots_of c.args.waiting.now in
     let i = c.loop-slot.slot-index in
     let b = c.loop-slot.best in
@@ -190,8 +191,8 @@ pub decide-returns-in-AlwaysUse-clause-is : goal.decide-returns-in-AlwaysUse-cla
 decide-returns-in-AlwaysUse-clause-is g t c =
     let ms = g.B.Bank.meanings c.args.bank.now.schemes.now in
     let d = g.D.Draws.source in
-    let L = late d (levels ms d (c.args.ctx.now.allowed_cascading - 1)) (seen c.args.col.array.view) (stats_in c.args.col) (history_of c.args.ctx.now) c.args.ctx.now.is_sample in
-    let k = number_of c.args.col.array.view.kind in
+    let L = late d (levels ms d (c.args.ctx.now.allowed_cascading - 1)) (seen c.args.col.array) (stats_in c.args.col) (history_of c.args.ctx.now) c.args.ctx.now.is_sample in
+    let k = number_of c.args.col.array.kind in
     let ss = slots_of c.args.waiting.now in
     let i = c.loop-slot.slot-index in
     let b = c.loop-slot.best in
@@ -208,8 +209,8 @@ pub decide-returns-in-AlwaysUse-clause-able : goal.decide-returns-in-AlwaysUse-c
 decide-returns-in-AlwaysUse-clause-able g t c =
     let ms = g.B.Bank.meanings c.args.bank.now.schemes.now in
     let d = g.D.Draws.source in
-    let L = late d (levels ms d (c.args.ctx.now.allowed_cascading - 1)) (seen c.args.col.array.view) (stats_in c.args.col) (history_of c.args.ctx.now) c.args.ctx.now.is_sample in
-    let k = number_of c.args.col.array.view.kind in
+    let L = late d (levels ms d (c.args.ctx.now.allowed_cascading - 1)) (seen c.args.col.array) (stats_in c.args.col) (history_of c.args.ctx.now) c.args.ctx.now.is_sample in
+    let k = number_of c.args.col.array.kind in
     let ss = slots_of c.args.waiting.now in
     let i = c.loop-slot.slot-index in
     let b = c.loop-slot.best in
@@ -225,8 +226,8 @@ pub decide-loop-slot-preserved : goal.decide-loop-slot-preserved
 decide-loop-slot-preserved g t c =
     let ms = g.B.Bank.meanings c.args.bank.now.schemes.now in
     let d = g.D.Draws.source in
-    let L = late d (levels ms d (c.args.ctx.now.allowed_cascading - 1)) (seen c.args.col.array.view) (stats_in c.args.col) (history_of c.args.ctx.now) c.args.ctx.now.is_sample in
-    let k = number_of c.args.col.array.view.kind in
+    let L = late d (levels ms d (c.args.ctx.now.allowed_cascading - 1)) (seen c.args.col.array) (stats_in c.args.col) (history_of c.args.ctx.now) c.args.ctx.now.is_sample in
+    let k = number_of c.args.col.array.kind in
     let ss = slots_of c.args.waiting.now in
     let i = c.loop-slot.slot-index in
     let b = c.loop-slot.best in
@@ -249,10 +250,10 @@ pub decide-returns-clause-is : goal.decide-returns-clause-is
 decide-returns-clause-is g t c =
     let ms = g.B.Bank.meanings c.args.bank.now.schemes.now in
     let e = c.as_slice-slot-items.ensures.items in
-    c.winner_of.ensures.is ms ∙ kept-last _ ms (number_of c.args.col.array.view.kind) (slots_of c.args.waiting.now) c.loop-slot.slot-index c.loop-slot.best _ c.loop-slot.invariant (omega (arith, ap length e))
+    c.winner_of.ensures.is ms ∙ kept-last _ ms (number_of c.args.col.array.kind) (slots_of c.args.waiting.now) c.loop-slot.slot-index c.loop-slot.best _ c.loop-slot.invariant (omega (arith, ap length e))
 
 pub decide-returns-clause-able : goal.decide-returns-clause-able
-decide-returns-clause-able g t c = c.winner_of.ensures.able (g.B.Bank.meanings c.args.bank.now.schemes.now) (number_of c.args.col.array.view.kind) c.loop-slot.invariant.leader
+decide-returns-clause-able g t c = c.winner_of.ensures.able (g.B.Bank.meanings c.args.bank.now.schemes.now) (number_of c.args.col.array.kind) c.loop-slot.invariant.leader
 
 -- ---- late and score
 
@@ -325,7 +326,7 @@ measure_scheme-leaf-own-requires g t c =
     let k = P.keep.small in
     let e = P.payload in
     let r = view-rows v in
-    let w = v.few in
+    let w = c.args.array.sound.few in
     record { short = omega arith }
 
 pub measure_scheme-returns-in-None : goal.measure_scheme-returns-in-None
@@ -450,7 +451,7 @@ measure_scheme-over-requires g t c =
     let k = P.keep.small in
     let e = P.payload in
     let r = view-rows v in
-    let w = v.few in
+    let w = c.args.array.sound.few in
     let ow = ap (λ x. x.weight) c.leaf-own.ensures in
     let ov = ap (λ x. x.whole) c.leaf-own.ensures in
     let on = ap (λ x. x.nodes) c.leaf-own.ensures in
@@ -591,7 +592,7 @@ measure_scheme-over-size-requires g t c =
     let k = P.keep.small in
     let e = P.payload in
     let r = view-rows v in
-    let w = v.few in
+    let w = c.args.array.sound.few in
     let ow = ap (λ x. x.weight) c.leaf-own.ensures in
     let ov = ap (λ x. x.whole) c.leaf-own.ensures in
     let on = ap (λ x. x.nodes) c.leaf-own.ensures in
@@ -801,7 +802,7 @@ measure_scheme-over-requires-in-Two g t c =
     let k = P.keep.small in
     let e = P.payload in
     let r = view-rows v in
-    let w = v.few in
+    let w = c.args.array.sound.few in
     let ow = ap (λ x. x.weight) c.leaf-own.ensures in
     let ov = ap (λ x. x.whole) c.leaf-own.ensures in
     let on = ap (λ x. x.nodes) c.leaf-own.ensures in

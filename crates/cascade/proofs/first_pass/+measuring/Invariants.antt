@@ -34,7 +34,7 @@ decreases-measure_scheme g l = 7 * l.ctx.now.allowed_cascading
 abbrev pub invariant-decide-loop-slot : goal.invariant-decide-loop-slot
 invariant-decide-loop-slot g l =
     let ms = g.B.Bank.meanings l.bank.schemes.now in
-    let c = seen l.col.array.view in
+    let c = seen l.col.array in
     let h = history_of l.ctx in
     let L = late g.D.Draws.source (levels ms g.D.Draws.source (l.ctx.allowed_cascading - 1)) c (stats_in l.col) h l.ctx.is_sample in
-    Kept L ms (number_of l.col.array.view.kind) (slots_of l.waiting) l.slot-index l.best (decided L (deferred_of ms (slots_of l.waiting)) (best_of ms l.fn.best))
+    Kept L ms (number_of l.col.array.kind) (slots_of l.waiting) l.slot-index l.best (decided L (deferred_of ms (slots_of l.waiting)) (best_of ms l.fn.best))

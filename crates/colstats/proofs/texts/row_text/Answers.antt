@@ -12,6 +12,6 @@ returns c =
     IfOk-weaker c.format.result _ _
     (λ s e.
     e ∙ row_is c.args.n c.view-view.result.kind (held c.args.column.now) (offer_seen c.view-view.result)
-    (stats_seen stats.result stats.new.table) _ _ _ c.view-view.ensures refl refl stats.ensures.stands
+    (stats_seen stats.result stats.new.table) _ _ _ c.view-view.ensures.same refl refl stats.ensures.stands
     c.in_ok-counts.ensures (c.in_ok-of_values.ensures stats.new.table stats.ensures.holds))
     c.format.ensures.ok

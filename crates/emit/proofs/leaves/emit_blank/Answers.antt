@@ -14,4 +14,4 @@ returns c =
     closed (blank_node (seen c.args.view)) (record { form = 2; kind = c.from.result; cell_bits = 0; flag = 0; rows = c.rows.result }) 0
     c.write_head.result (record { whole = 0; nodes = 0 }) c.args.out.now c.args.out.now c.write_head.new.out
     (λ j. record { form = 2; kind = k j; cell_bits = 0; flag = 0; rows = n j })
-    refl c.requires (sym (written_at-none 16 c.args.out.now)) refl refl w.whole w.nodes w.bytes
+    refl c.requires.room (sym (written_at-none 16 c.args.out.now)) refl refl w.whole w.nodes w.bytes

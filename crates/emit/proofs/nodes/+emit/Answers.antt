@@ -39,7 +39,7 @@ emit-returns-then-form-eq-CONSTANT g t c =
     λ n p. subst (λ x. Emitted x c.emit_constant.result c.args.out.now c.emit_constant.new.out) (sym (constant-is c.requires.opened p c.if-form-eq-CONSTANT.true).1) c.emit_constant.ensures
 
 pub emit-emit_blank-requires : goal.emit-emit_blank-requires
-emit-emit_blank-requires g t c = blank-room c.requires.opened c.requires.planned.1 c.if-form-eq-BLANK.true
+emit-emit_blank-requires g t c = record { sound = c.args.array.sound; room = blank-room c.requires.opened c.requires.planned.1 c.if-form-eq-BLANK.true }
 
 pub emit-returns-then-form-eq-BLANK : goal.emit-returns-then-form-eq-BLANK
 emit-returns-then-form-eq-BLANK g t c =

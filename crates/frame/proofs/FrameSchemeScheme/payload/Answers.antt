@@ -13,7 +13,7 @@ write_payload-requires c =
     let r = c.of-reference.ensures in
     let ds = c.write_distances.new.out in
     let n = ap length c.write_distances.ensures ∙ length-map s.rows (over_base s.kind c.of-reference.result.least) ∙ view-rows c.args.array.view in
-    let f = c.args.array.view.few in
+    let f = c.args.array.sound.few in
     let e = payload-is s c.of-reference.result.least c.of-reference.result.bits ds r.least r.bits c.write_distances.ensures in
     record {
       few = omega (arith, n, f);

@@ -11,7 +11,7 @@ put_bits-requires c =
     let v = c.args.array.view in
     let m = mask-len-by _ _ (seen v).rows (view-rows v) (sym c.if-has_blank.ensures) in
     let t : length (mask (seen v).rows) ≤ length c.args.out.now = c.requires.room in
-    record { room = omega arith }
+    record { sound = c.args.array.sound; room = omega arith }
 
 pub returns-then-has_blank : goal.returns-then-has_blank
 returns-then-has_blank c =

@@ -26,7 +26,7 @@ draw-from-requires g c =
     let r = ends n k c.loop-i.i c.loop-i-test.true in
     let d = ap (λ p. p.0) c.stratum-start.ensures.bounds in
     let e = ap (λ p. p.1) c.stratum-start.ensures.bounds in
-    record { ordered = omega (arith, w, d, e); small = omega (arith, r, e, c.args.array.view.few) }
+    record { ordered = omega (arith, w, d, e); small = omega (arith, r, e, c.args.array.sound.few) }
 
 pub put_cells-requires : goal.put_cells-requires
 put_cells-requires g c =
@@ -47,7 +47,7 @@ word_from-requires g c =
     let l : 64 * k ≤ length c.args.array.view.cells.now = omega (arith, c.requires.large) in
     record {
       within =
-          words-room c.args.array.view _
+          words-room c.args.array.view c.args.array.sound _
           (draw-room g.D.Draws.source g.met.D.Draws.within _ k c.loop-i.i bs _ _ c.loop-i-test.true l c.stratum-start.ensures.bounds
           (c.draw-from.ensures.answers seed bs c.loop-i.invariant.0));
     }

@@ -15,6 +15,7 @@ runs_from-runs-requires c =
     let rows = length c.args.view.cells.now in
     let far : 2 * rows + 64 - 2 * rows ≤ length (drop (2 * rows) out) = omega (arith, length-drop (2 * rows) out) in
     record {
+      sound = c.requires.sound;
       room = omega (arith, length-take-le (2 * rows + 64 - 2 * rows) (drop (2 * rows) out) far);
       first = c.copied-first.ensures ∙ c.first.ensures.value ∙ ap (λ z. slice_get z 0) c.gather-count.ensures.front;
     }

@@ -12,7 +12,7 @@ as_cleaned-requires c =
     let h = length-cleaned o in
     record {
       few = let l = ap length f in omega arith;
-      worded = c.args.view.worded ∙ ap words_for (sym (ap length f ∙ h));
+      worded = c.requires.sound.words ∙ ap words_for (sym (ap length f ∙ h));
       unrefused = still o out c.requires.unrefused f;
       zeros = zeros o out f;
     }

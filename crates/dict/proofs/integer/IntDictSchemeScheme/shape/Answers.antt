@@ -17,6 +17,7 @@ encode-requires c =
     let found : take (n - 0) out ≡ distinct_values (seen view) = ap (λ z. take z out) (let s : n - 0 ≡ n = omega arith in s) ∙ c.list_distinct-count.ensures.front in
     let rows = c.rows-rows.ensures in
     record {
+      sound = c.args.array.sound;
       ascends = subst (Ascends (number_of view.kind)) (sym found) (distinct-ascends (seen view) c.args.array.clean.clean);
       known = subst (λ ds. Known ds (values (seen view))) (sym found) (distinct-known (seen view));
       room = length-take-le (c.rows-rows.result - 0) c.args.cells1.now (omega arith) ∙ omega arith;
@@ -45,5 +46,5 @@ returns c =
     c.read_mask.ensures
     (rows ∙ sym (length-offered (offer_seen view)))
     (take_at c.encode.new.out _ c.rows-rows.result codes ∙ c.encode.ensures ∙ ap (λ xs. cells (map (code_row xs) rs)) found)
-    (take_at c.copy_from_slice.new.self _ (words_for c.rows-rows.result) (ap length words ∙ view.worded ∙ ap words_for (sym rows)) ∙ words ∙ ap (λ o. o.words) c.args.array.clean.stored)
+    (take_at c.copy_from_slice.new.self _ (words_for c.rows-rows.result) (ap length words ∙ c.args.array.sound.words ∙ ap words_for (sym rows)) ∙ words ∙ ap (λ o. o.words) c.args.array.clean.stored)
     (c.codes_kind.ensures ∙ ap (λ x. narrow (x - 1)) len)
