@@ -397,7 +397,7 @@ mod tests {
         words: &[],
     };
 
-    // Statistics of another column, and no table; a node of more rows than a column may have. An empty bank is asked about them all.
+    // Statistics of another column, and no table.
     #[test]
     fn empty_asks_for_nothing(rt: HostRuntime) {
         let other = View {
@@ -430,6 +430,7 @@ mod tests {
         assert!(rt; matches!(verdict, EstimateVerdict::Skip));
     }
 
+    // A node of more rows than a column may have.
     #[test]
     fn empty_writes_nothing(rt: HostRuntime) {
         let shape = <Empty as Bank>::shape_at(
