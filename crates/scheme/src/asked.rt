@@ -2,7 +2,7 @@
 use column::views::View;
 use stats::integer::IntegerStats;
 
-// A cleaned column with its statistics; the distinct values stand in `table`.
+// A column with its statistics; the distinct values stand in `table`. That it is cleaned, and that they are its own, is asked by clauses.
 #[derive(Clone, Copy)]
 pub struct ArrayAndStats<'a> {
     pub array: View<'a>,
