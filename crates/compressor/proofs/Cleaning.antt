@@ -7,9 +7,10 @@ use Rattle.packing.specs.Packing.{joined, digits, written}
 use Rattle.packing.proofs.Digits.{digits-joined, joined-digits}
 use Rattle.column.specs.declared.views.View.{View}
 use Rattle.column.specs.declared.refusals.Refusal.TheVariants.{UnknownKind, TooManyRows, BadPresence}
-use Rattle.column.specs.Columns.{Offer, CleanView, bits, cells, presence, offered, offer_seen, offer_refused, or_else, refuse_stray, seen, stray_from, words_for, words_wrong}
+use Rattle.column.specs.Columns.{Offer, Sound, CleanView, bits, cells, presence, offered, offer_seen, offer_refused, or_else, refuse_stray, seen, stray_from, words_for, words_wrong}
 use Rattle.column.proofs.WordLaws.{Words}
-use Rattle.column.proofs.RowLaws.{bits-rows, length-offered}
+use Rattle.column.proofs.RowLaws.{bits-rows, clean-short, length-offered}
+use Rattle.column.proofs.ViewLaws.{view-rows}
 use Rattle.column.proofs.InspectLaws.{unrefused}
 
 -- what an offer that is not turned away says of its presence words
@@ -31,6 +32,13 @@ few-bits n ws e = go (Rattle.std.proofs.Common.eqb (length ws) (words_for n)) (l
     go true true a b f = (eqb-true _ _ a, ltb-true _ _ b)
     go true false a b f = absurd (Rattle.std.proofs.Common.true≢false f)
     go false q a b f = absurd (Rattle.std.proofs.Common.true≢false f)
+
+-- a view that no refusal turns away has a word for each 64 rows, and no more rows than a column may have
+pub unrefused-sound : (v : View) → offer_refused (offer_seen v) ≡ None → Sound v
+unrefused-sound v e =
+    let rows = view-rows v in
+    let short = clean-short (seen v) (unrefused (offer_seen v) e) in
+    record { few = omega (arith, rows, short); words = (few-bits (length v.cells.now) v.words.now (fine-words (offer_seen v) e)).0 }
 
 -- its presence words are those of its rows
 pub words-back : (o : Offer) → Words o.words → offer_refused o ≡ None → o.words ≡ presence (offered o)

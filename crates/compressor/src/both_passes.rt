@@ -1,7 +1,7 @@
 // Both passes: the first decides and measures, the second writes.
 ghost use Rattle.std.specs.Prelude.{◌≡◌, ◌≤◌, length, None};
 ghost use Rattle.calls.specs.Calls.{bound_in, fitting};
-ghost use Rattle.column.specs.Columns.{Sound, offer_refused, offer_seen, seen};
+ghost use Rattle.column.specs.Columns.{offer_refused, offer_seen, seen};
 ghost use Rattle.compressor.specs.Compressed.{bytes_after, setting, whole_of, Compressed};
 ghost use Rattle.levels.specs.Plans.{room, working_memory};
 
@@ -36,7 +36,6 @@ pub fn compress<B: Bank, D: Draws + Drop>(
     mem: &mut [u64],
     out: &mut [u8],
 ) -> Result<usize, Refusal>
-    requires sound { Sound view }
     requires taken { offer_refused (offer_seen view) ≡ None }
     requires room { working_memory opening.now.levels (length view.cells.now) ≤ length mem.old }
     ensures answer { result ≡ whole_of (fitting (length out.old) (bound_in (setting (B.Bank.meanings opening.now.bank.schemes.now) D.Draws.source opening.now.levels) (seen view.entry))) }

@@ -1,6 +1,6 @@
 // A column as all later work sees it.
 ghost use Rattle.std.specs.Prelude.{◌≡◌, ◌≤◌, length, None};
-ghost use Rattle.column.specs.Columns.{Sound, cells as cells_of, cleaned, offer_refused, offer_seen, seen, words_for};
+ghost use Rattle.column.specs.Columns.{cells as cells_of, cleaned, offer_refused, offer_seen, seen, words_for};
 ghost use Rattle.column.specs.Kinds.{number_of};
 
 use column::cleaned::Cleaned;
@@ -9,7 +9,6 @@ use column::views::View;
 
 // The column with 0 under each blank, its cells in a lent place.
 pub fn cleaned<'a>(view: View<'a>, cells: &'a mut [u64]) -> Cleaned<'a>
-    requires sound { Sound view }
     requires taken { offer_refused (offer_seen view) ≡ None }
     requires room { length cells.old ≡ length view.cells.now }
     ensures column { seen result.view ≡ seen view.entry }

@@ -1,2 +1,3 @@
+pub mod AskedLaws
 pub mod ChildLaws
 pub mod Ratios

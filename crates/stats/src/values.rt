@@ -1,7 +1,7 @@
 // The values of a column in row order, and their ends.
 ghost use Rattle.std.specs.Prelude.{◌≡◌, ◌+◌, ◌≤◌, ◌++◌, length, take, drop};
 ghost use Rattle.column.specs.Kinds.{number_of};
-ghost use Rattle.column.specs.Columns.{Sound, seen, values};
+ghost use Rattle.column.specs.Columns.{seen, values};
 ghost use Rattle.stats.specs.Stats.{least_of, greatest_of};
 ghost use Rattle.stats.specs.Blocks.{kept_from};
 
@@ -27,9 +27,8 @@ fn gather_block(block: Block<'_>, out: &mut [u64], at: usize) -> usize
     n
 }
 
-// The values at the front of `out`, and how many they are.
+// The values at the front of `out`, and how many they are; rows without a presence word are blanks.
 pub fn gather(view: View<'_>, out: &mut [u64]) -> usize
-    requires sound { Sound view }
     requires room { length view.cells.now ≤ length out.old }
     ensures front { take result out.new ≡ values (seen view.entry) }
     ensures fits { result ≤ length view.entry.cells.now }
@@ -65,4 +64,29 @@ pub(crate) fn greatest_of(kind: Kind, found: &[u64]) -> u64
             .iter()
             .fold(none, |key, cell| key.max(kind.key(*cell))),
     )
+}
+
+#[cfg(test)]
+mod tests {
+    use super::*;
+
+    // A row without a presence word is a blank, and so is one whose bit is not set.
+    #[test]
+    fn gathers_with_few_words(rt: HostRuntime) {
+        let view = View {
+            kind: Kind::U8,
+            cells: &[1, 2, 3],
+            words: &[],
+        };
+        let mut out = [7; 3];
+        assert_eq!(rt; gather(view, &mut out), 0);
+        assert_eq!(rt; out, [7; 3]);
+        let view = View {
+            kind: Kind::U8,
+            cells: &[1, 2, 3],
+            words: &[0b101, 0b111],
+        };
+        assert_eq!(rt; gather(view, &mut out), 2);
+        assert_eq!(rt; out, [1, 3, 7]);
+    }
 }
